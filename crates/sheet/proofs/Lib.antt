@@ -1,0 +1,10 @@
+-- Laws that belong to no one function.
+pub mod Packing
+pub mod Spelled
+pub mod Turns
+pub mod Parts
+pub mod Cases
+pub mod Tells
+pub mod Order
+pub mod Judging
+pub mod Stores

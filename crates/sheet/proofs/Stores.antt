@@ -1,0 +1,57 @@
+-- Runs of stores: one run after another, and the lengths of what the layout puts. Assumes nothing.
+use Prim.Native.Nat.{ℕ, zero, suc, _+_, _*_, _%_, _^_, _≤_}
+use mathlib.Core.Path.{_≡_, refl, sym, ap, ap₂, subst, _∙_}
+use mathlib.Core.List.{List, [], _∷_, _++_}
+use native.Mathlib.Nat.{zero-add, add-zero, add-suc, suc-add, mul-zero, mul-suc}
+use lib.ListN.{length, drop, length-append}
+use lib.Seq.{sets, sets-eq}
+use Rattle.sheet.specs.declared.Record.{Record}
+use Rattle.sheet.specs.declared.Table.{Table}
+use Rattle.sheet.specs.Places.{joinedBelow}
+use Rattle.sheet.specs.Packing.{bitsOf, packed, unpacked, regrouped}
+use Rattle.sheet.specs.Layout.{bytes, sizeOf, recordAt, recordBytes, headerBytes, sheetOf}
+
+-- a run of stores where the one before it ended is one longer run
+pub sets-after : (l vs ws : List ℕ) (i k : ℕ) → k ≡ i + length vs → sets (sets l i vs) k ws ≡ sets l i (vs ++ ws)
+sets-after l [] ws i k e = ap (λ (n : ℕ). sets l n ws) (e ∙ add-zero i)
+sets-after l (v ∷ vs) ws i k e = sets-after _ vs ws (suc i) k (e ∙ add-suc i (length vs) ∙ sym (suc-add i (length vs)))
+
+length-unpacked : (us : List ℕ) (n : ℕ) → length (unpacked us n) ≡ length us
+length-unpacked [] n = refl
+length-unpacked (u ∷ us) n = ap suc (length-unpacked us (n % 2 ^ bitsOf us))
+
+-- what is regrouped has as many values as widths
+pub length-regrouped : (ws us vs : List ℕ) → length (regrouped ws us vs) ≡ length us
+unfolding regrouped
+length-regrouped ws us vs = length-unpacked us (packed ws vs)
+
+-- so many bytes for each place
+pub length-joined : (f : ℕ → List ℕ) (w : ℕ) → ((k : ℕ) → length (f k) ≡ w) → (n : ℕ) → length (joinedBelow f n) ≡ w * n
+unfolding joinedBelow
+length-joined f w each zero = sym (mul-zero w)
+length-joined f w each (suc n) =
+    length-append (joinedBelow f n) (f n) ∙ ap (λ (k : ℕ). k + length (f n)) (length-joined f w each n) ∙ ap (λ (k : ℕ). w * n + k) (each n) ∙ sym (mul-suc w n)
+
+pub length-record : (r : Record) → length (recordBytes r) ≡ 9
+unfolding recordBytes
+length-record r = length-regrouped _ (bytes 9) _
+
+pub length-records : (at : ℕ → Record) (n : ℕ) → length (joinedBelow (λ place. recordBytes (at place)) n) ≡ 9 * n
+length-records at n = length-joined (λ place. recordBytes (at place)) 9 (λ place. length-record (at place)) n
+
+pub length-header : (count interval : ℕ) → length (headerBytes count interval) ≡ 3
+unfolding headerBytes
+length-header count interval = length-regrouped _ (bytes 3) _
+
+pub length-sheet : (t : Table) → length (sheetOf t) ≡ sizeOf (t .count)
+unfolding sheetOf sizeOf
+length-sheet t = length-append (headerBytes (t .count) (t .interval)) _ ∙ ap₂ _+_ (length-header (t .count) (t .interval)) (length-records (recordAt (t .records)) (t .count))
+
+-- the header's stores and then the records' leave the sheet, and the bytes after it as they were
+pub sheet-stored : (t : Table) (out : List ℕ) → sizeOf (t .count) ≤ length out
+    → sets (sets out 0 (headerBytes (t .count) (t .interval))) 3 (joinedBelow (λ place. recordBytes (recordAt (t .records) place)) (t .count)) ≡ sheetOf t ++ drop (sizeOf (t .count)) out
+unfolding sheetOf
+sheet-stored t out long =
+    let whole : 0 + length (sheetOf t) ≡ sizeOf (t .count) = zero-add (length (sheetOf t)) ∙ length-sheet t in
+    let runs = sets-after out (headerBytes (t .count) (t .interval)) (joinedBelow (λ place. recordBytes (recordAt (t .records) place)) (t .count)) 0 3 (sym (zero-add _ ∙ length-header (t .count) (t .interval))) in
+    runs ∙ sets-eq (sheetOf t) out 0 (subst (λ (n : ℕ). n ≤ length out) (sym whole) long) ∙ ap (λ (n : ℕ). sheetOf t ++ drop n out) whole

@@ -1,0 +1,44 @@
+-- `sheet::judge_place` meets its contract. Assumes nothing.
+use mathlib.Core.Path.{_≡_, sym, _∙_}
+use borrow.Author.Tests.{lt-ltb, le-ltb}
+use Rattle.sheet.specs.Rules.{sheetRefusal}
+use Rattle.sheet.specs.Layout.{countOf}
+use Rattle.sheet.specs.Answers.{placeRefusal}
+use Rattle.sheet.proofs.Turns.{first-of, next-of}
+use Rattle.sheet.proofs.Cases.{GoodHeader, good-sheet}
+use borrow.Author.Needs.{needs}
+use Rattle.sheet.proofs.judge_place.Statement.{statement}
+use Rattle.sheet.proofs.judge_place.Tie as tie
+
+judge-requires : tie.Need-judge-requires
+judge-requires c κs = search needs
+
+returns : tie.Need-returns
+unfolding placeRefusal
+returns c = c .before .judge .ensures ∙ sym (first-of _ _ (λ e. c .if1 .taken (cc)))
+
+count-requires : tie.Need-count-requires
+count-requires c κs = good-sheet (c .before .before .before .args .sheet .now) (cc) .0 .long
+
+cast-if2 : tie.Need-cast-if2
+cast-if2 c = search needs
+
+returns-2 : tie.Need-returns-2
+unfolding placeRefusal
+returns-2 c =
+    let sheet = c .before .before .before .before .before .args .sheet .now in
+    let good : sheetRefusal sheet ≡ 0 = cc in
+    let below = rw (c .before .count .ensures) at (c .if2 .taken) in
+    sym (next-of _ good ∙ simp (lt-ltb _ _ below))
+
+returns-3 : tie.Need-returns-3
+unfolding placeRefusal
+returns-3 c =
+    let sheet = c .before .before .before .before .before .args .sheet .now in
+    let good : sheetRefusal sheet ≡ 0 = cc in
+    let above = rw (c .before .count .ensures) at (c .if2 .left) in
+    sym (next-of _ good ∙ simp (le-ltb _ _ above))
+
+pub judge-place-spec : {M : Type 1} → statement M
+judge-place-spec =
+    tie.close (tie.spec judge-requires returns count-requires cast-if2 returns-2 returns-3)

@@ -1,0 +1,40 @@
+-- `sheet::layout::record_from` meets its contract: each field is the bytes that the layout gives it. Assumes nothing.
+use Rattle.sheet.proofs.Spelled.{record-spelled}
+use borrow.Author.Needs.{needs}
+use Rattle.sheet.proofs.layout.record_from.Statement.{statement}
+use Rattle.sheet.proofs.layout.record_from.Tie as tie
+
+field-requires : tie.Need-field-requires
+field-requires c κs = search needs
+
+field-requires-2 : tie.Need-field-requires-2
+field-requires-2 c κs = search needs
+
+field-requires-3 : tie.Need-field-requires-3
+field-requires-3 c κs = search needs
+
+field-requires-4 : tie.Need-field-requires-4
+field-requires-4 c κs = search needs
+
+shared-slice-read-t7 : tie.Need-shared-slice-read-t7
+shared-slice-read-t7 c = search needs
+
+shared-slice-read-t10 : tie.Need-shared-slice-read-t10
+shared-slice-read-t10 c = search needs
+
+returns : tie.Need-returns
+returns c =
+    let start = c .before .before .before .before .before .before .before in
+    cc (record-spelled (start .args .part .now) (start .pre) (λ k. c .shared-slice-known3 .given k .fits))
+
+pub record-from-spec : {M : Type 1} → statement M
+record-from-spec =
+    tie.close
+    (tie.spec
+    field-requires
+    field-requires-2
+    field-requires-3
+    field-requires-4
+    shared-slice-read-t7
+    shared-slice-read-t10
+    returns)

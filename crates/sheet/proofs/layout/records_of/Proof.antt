@@ -1,0 +1,100 @@
+-- `sheet::layout::records_of` meets its contract: before each turn the records below the place are filled. Assumes nothing.
+use Prim.Native.Nat.{_≤_, _-_}
+use mathlib.Core.Path.{_≡_, sym, ap, _∙_}
+use native.Mathlib.Omega.{arith}
+use lib.ListN.{length, replicate}
+use Rattle.sheet.specs.declared.Record.{Record}
+use Rattle.sheet.specs.Places.{filledBelow}
+use Rattle.sheet.specs.Layout.{sheetRecord, noRecord, room}
+use Rattle.sheet.proofs.Turns.{fill-more}
+use Rattle.sheet.proofs.Parts.{part-at, part-end, part-nine}
+use borrow.Author.Needs.{needs}
+use Rattle.sheet.proofs.layout.records_of.Statement.{statement}
+use Rattle.sheet.proofs.layout.records_of.Tie as tie
+
+abbrev Inv-loop : tie.InvT-loop
+Inv-loop sheet count records₀ place₀ records place = (place ≤ count) × (records ≡ filledBelow (sheetRecord sheet) place (replicate 8 noRecord))
+
+abbrev μ-loop : tie.MeasureT-loop
+μ-loop sheet count records₀ place₀ records place = count - place
+
+no-record-requires : tie.Need-no-record-requires Inv-loop μ-loop
+no-record-requires c κs = search needs
+
+loop-holds : tie.Need-loop-holds Inv-loop μ-loop
+unfolding filledBelow
+loop-holds c = (search needs, ap (replicate 8) (c .no-record .ensures))
+
+mul-start : tie.Need-mul-start Inv-loop μ-loop
+mul-start c = search needs
+
+add-start : tie.Need-add-start Inv-loop μ-loop
+add-start c = search needs
+
+add-end : tie.Need-add-end Inv-loop μ-loop
+add-end c = search needs
+
+sub-record-from : tie.Need-sub-record-from Inv-loop μ-loop
+sub-record-from c = search needs
+
+part-record-from-start : tie.Need-part-record-from-start Inv-loop μ-loop
+part-record-from-start c = search needs
+
+part-record-from-end : tie.Need-part-record-from-end Inv-loop μ-loop
+part-record-from-end c =
+    let start = c .before .before .before .before in
+    part-end (start .args .sheet .now) _ _ (start .pre .1) (c .loop-test .taken)
+
+record-from-requires : tie.Need-record-from-requires Inv-loop μ-loop
+record-from-requires c κs =
+    let turn = c .before in
+    ap length (part-at _ _) ∙ part-nine _ _ _ (turn .before .before .before .before .pre .1) (turn .loop-test .taken)
+
+mul-records : tie.Need-mul-records Inv-loop μ-loop
+mul-records c = search needs
+
+array-set-from-records : tie.Need-array-set-from-records Inv-loop μ-loop
+array-set-from-records c = search needs
+
+add-place : tie.Need-add-place Inv-loop μ-loop
+add-place c = search needs
+
+loop-less : tie.Need-loop-less Inv-loop μ-loop
+loop-less c = search needs
+
+loop-again : tie.Need-loop-again Inv-loop μ-loop
+unfolding sheetRecord
+loop-again c =
+    let turn = c .before .before in
+    let sheet = turn .before .before .before .before .args .sheet .now in
+    let place = turn .before .loop .place in
+    (search needs, cc (fill-more (sheetRecord sheet) place (replicate 8 noRecord), part-at sheet place))
+
+returns : tie.Need-returns Inv-loop μ-loop
+unfolding room
+returns c =
+    let done = c .before .loop .inv in
+    let all : c .before .loop .place ≡ c .before .before .before .before .args .count = omega arith in
+    cc
+
+pub records-of-spec : {M : Type 1} → statement M
+records-of-spec =
+    tie.close
+    (tie.spec
+    Inv-loop
+    μ-loop
+    no-record-requires
+    loop-holds
+    mul-start
+    add-start
+    add-end
+    sub-record-from
+    part-record-from-start
+    part-record-from-end
+    record-from-requires
+    mul-records
+    array-set-from-records
+    add-place
+    loop-less
+    loop-again
+    returns)

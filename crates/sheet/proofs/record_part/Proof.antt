@@ -1,0 +1,75 @@
+-- `sheet::record_part` meets its contract: the part is the record's own place in the sheet. Assumes nothing.
+use Prim.Native.Nat.{_+_, _*_, _<_}
+use mathlib.Core.Path.{_≡_, refl}
+use native.Mathlib.Nat.{add-zero, add-comm}
+use borrow.Author.Tests.{ne-eqb}
+use native.Mathlib.Omega.{arith}
+use Rattle.sheet.specs.Answers.{Part, placeRefusal, partStart, partBytes}
+use Rattle.sheet.proofs.Cases.{good-place}
+use Rattle.sheet.proofs.Parts.{part-at, part-end}
+use borrow.Author.Needs.{needs}
+use Rattle.sheet.proofs.record_part.Statement.{statement}
+use Rattle.sheet.proofs.record_part.Tie as tie
+
+-- a place that was not refused is below 8
+low : (c : tie.Else1) → c .before .before .before .args .place < 8
+low c =
+    let given = c .before .before .before in
+    let good = good-place (given .args .sheet .now) (given .args .place) (cc) in
+    omega (arith, good .1, good .0 .count .1)
+
+judge-place-requires : tie.Need-judge-place-requires
+judge-place-requires c κs = search needs
+
+slice-aggregate-result : tie.Need-slice-aggregate-result
+slice-aggregate-result c = search needs
+
+returns : tie.Need-returns
+unfolding partStart partBytes
+returns c =
+    let given = c .before .before .before .before in
+    let refused = ne-eqb (placeRefusal (given .args .sheet .now) (given .args .place)) 0 (λ e. c .before .if1 .taken (cc)) in
+    record { block = refl; offset = simp (refused, add-zero); content = simp refused }
+
+mul-start : tie.Need-mul-start
+mul-start c = omega (arith, low c)
+
+add-start : tie.Need-add-start
+add-start c = omega (arith, low c)
+
+add-end : tie.Need-add-end
+add-end c = omega (arith, low c)
+
+sub-result : tie.Need-sub-result
+sub-result c = search needs
+
+part-result-start : tie.Need-part-result-start
+part-result-start c = search needs
+
+part-result-end : tie.Need-part-result-end
+part-result-end c =
+    let given = c .before .before .before in
+    let good = good-place (given .args .sheet .now) (given .args .place) (cc) in
+    part-end (given .args .sheet .now) _ _ (good .0 .size) (good .1)
+
+returns-2 : tie.Need-returns-2
+unfolding partStart partBytes
+returns-2 c =
+    let given = c .before .before .before .before in
+    let good : placeRefusal (given .args .sheet .now) (given .args .place) ≡ 0 = cc in
+    record { block = refl; offset = simp good (add-comm (3 + 9 * given .args .place) (given .args .sheet .ptr .1)); content = simp good (part-at _ _) }
+
+pub record-part-spec : {M : Type 1} → statement M
+record-part-spec =
+    tie.close
+    (tie.spec
+    judge-place-requires
+    slice-aggregate-result
+    returns
+    mul-start
+    add-start
+    add-end
+    sub-result
+    part-result-start
+    part-result-end
+    returns-2)

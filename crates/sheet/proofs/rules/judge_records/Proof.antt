@@ -1,0 +1,89 @@
+-- `sheet::rules::judge_records` meets its contract: the records below the place are good, and their priorities marked. Assumes nothing.
+use Prim.Native.Nat.{_-_}
+use mathlib.Core.Path.{_≡_, sym, _∙_}
+use mathlib.Core.Bool.{false}
+use lib.ListN.{getD}
+use Rattle.sheet.specs.Layout.{recordAt}
+use Rattle.sheet.specs.Rules.{refusalOf}
+use Rattle.sheet.proofs.Judging.{Judging, judging-start, judging-more, judging-found, judging-done, level-small}
+use borrow.Author.Needs.{needs}
+use Rattle.sheet.proofs.rules.judge_records.Statement.{statement}
+use Rattle.sheet.proofs.rules.judge_records.Tie as tie
+
+abbrev Inv-loop : tie.InvT-loop
+Inv-loop count records marks₀ place₀ marks place = Judging count (recordAt records) marks place
+
+abbrev μ-loop : tie.MeasureT-loop
+μ-loop count records marks₀ place₀ marks place = count - place
+
+loop-holds : tie.Need-loop-holds Inv-loop μ-loop
+loop-holds c = judging-start _ _ (c .pre)
+
+mul-task : tie.Need-mul-task Inv-loop μ-loop
+mul-task c = search needs
+
+array-copy-out-task : tie.Need-array-copy-out-task Inv-loop μ-loop
+array-copy-out-task c = search needs
+
+is-marked-requires : tie.Need-is-marked-requires Inv-loop μ-loop
+is-marked-requires c κs = search needs
+
+judge-record-requires : tie.Need-judge-record-requires Inv-loop μ-loop
+judge-record-requires c κs = search needs
+
+returns : tie.Need-returns Inv-loop μ-loop
+unfolding recordAt
+returns c =
+    let turn = c .before .before .before .before in
+    let at = turn .before .loop in
+    let given = turn .before .before in
+    let task = recordAt (given .args .t1) (at .place) in
+    let said : c .before .judge-record .result ≡ refusalOf (given .args .count) (getD (at .marks) (task .priority) false) task = cc in
+    said ∙ judging-found _ _ (given .pre) _ _ (at .inv) (turn .loop-test .taken) (λ e. c .if1 .taken (said ∙ e))
+
+cast-level : tie.Need-cast-level Inv-loop μ-loop
+cast-level c = search needs
+
+array-write-marks : tie.Need-array-write-marks Inv-loop μ-loop
+unfolding recordAt
+array-write-marks c =
+    let turn = c .before .before .before .before .before in
+    let at = turn .before .loop in
+    let given = turn .before .before in
+    level-small _ (recordAt (given .args .t1)) (given .pre) (at .marks) (at .place) (at .inv) (turn .loop-test .taken) (cc)
+
+add-place : tie.Need-add-place Inv-loop μ-loop
+add-place c = search needs
+
+loop-less : tie.Need-loop-less Inv-loop μ-loop
+loop-less c = search needs
+
+loop-again : tie.Need-loop-again Inv-loop μ-loop
+unfolding recordAt
+loop-again c =
+    let turn = c .before .before .before .before .before in
+    let at = turn .before .loop in
+    let given = turn .before .before in
+    judging-more _ (recordAt (given .args .t1)) (given .pre) (at .marks) (at .place) (at .inv) (turn .loop-test .taken) (cc)
+
+returns-2 : tie.Need-returns-2 Inv-loop μ-loop
+returns-2 c = judging-done _ _ (c .before .before .pre) _ _ (c .before .loop .inv) (c .loop-test .left)
+
+pub judge-records-spec : {M : Type 1} → statement M
+judge-records-spec =
+    tie.close
+    (tie.spec
+    Inv-loop
+    μ-loop
+    loop-holds
+    mul-task
+    array-copy-out-task
+    is-marked-requires
+    judge-record-requires
+    returns
+    cast-level
+    array-write-marks
+    add-place
+    loop-less
+    loop-again
+    returns-2)

@@ -1,0 +1,58 @@
+-- `sheet::write` meets its contract: refused, the output is as it was; else it starts with the sheet. Assumes nothing.
+use mathlib.Core.Path.{_≡_, sym, _∙_}
+use borrow.Author.Tests.{ne-eqb}
+use Rattle.sheet.specs.Rules.{tableRefusal}
+use Rattle.sheet.specs.Answers.{writeRefusal, writeAnswer, writeLeaves}
+use Rattle.sheet.proofs.Cases.{write-refused, write-short, write-fits}
+use borrow.Author.Needs.{needs}
+use Rattle.sheet.proofs.write.Statement.{statement}
+use Rattle.sheet.proofs.write.Tie as tie
+
+judge-table-requires : tie.Need-judge-table-requires
+judge-table-requires c κs = search needs
+
+returns : tie.Need-returns
+unfolding writeAnswer writeLeaves
+returns c =
+    let given = c .before .before .before in
+    let refused = c .if1 .taken in
+    let refusal = write-refused (given .args .table) (given .args .out .now) (λ e. refused (cc)) ∙ sym (c .before .judge-table .ensures) in
+    (simp (refusal, ne-eqb _ 0 refused), simp (refusal, ne-eqb _ 0 refused))
+
+size-requires : tie.Need-size-requires
+size-requires c κs = search needs
+
+returns-2 : tie.Need-returns-2
+unfolding writeAnswer writeLeaves
+returns-2 c =
+    let given = c .before .before .before .before .before in
+    let short = rw (c .before .size .ensures) at (c .if2 .taken) in
+    let refusal = write-short (given .args .table) (given .args .out .now) (cc) short in
+    (simp refusal, simp refusal)
+
+put-sheet-requires : tie.Need-put-sheet-requires
+put-sheet-requires c κs = search needs
+
+same-length : tie.Need-same-length
+same-length c = search needs
+
+returns-3 : tie.Need-returns-3
+unfolding writeAnswer writeLeaves
+returns-3 c =
+    let sized = c .before .before .before .before .before in
+    let given = sized .before .before .before .before in
+    let fits = rw (sized .size .ensures) at (c .before .before .before .before .if2 .left) in
+    let refusal = write-fits (given .args .table) (given .args .out .now) (cc) fits in
+    (simp (refusal, sized .size .ensures), simp refusal (c .before .before .put-sheet .ensures))
+
+pub write-spec : {M : Type 1} → statement M
+write-spec =
+    tie.close
+    (tie.spec
+    judge-table-requires
+    returns
+    size-requires
+    returns-2
+    put-sheet-requires
+    same-length
+    returns-3)

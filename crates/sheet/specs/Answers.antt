@@ -1,0 +1,54 @@
+-- What each public call answers, refusals included, and what it leaves in the lent output.
+use Prim.Native.Nat.{ℕ, _+_, _*_}
+use mathlib.Core.Path.{_≡_}
+use mathlib.Core.Bool.{Bool, cond}
+use mathlib.Core.List.{List, [], _++_}
+use lib.Dec.{eqb, ltb}
+use lib.ListN.{length, drop}
+use denote.Ref.{RefT, now}
+use Rattle.sheet.specs.declared.Table.{Table}
+use Rattle.sheet.specs.declared.Reading.{Reading}
+use Rattle.sheet.specs.declared.Writing.{Writing}
+use Rattle.sheet.specs.declared.Excerpt.{Excerpt}
+use Rattle.sheet.specs.Places.{orElse}
+use Rattle.sheet.specs.Layout.{countOf, sizeOf, partOf, tableOf, noTable, sheetOf}
+use Rattle.sheet.specs.Rules.{sheetRefusal, tableRefusal}
+
+-- `read`: the refusal beside the table, a zero table where the sheet is refused
+unfoldable pub readAnswer : List ℕ → Reading
+readAnswer sheet = record { refusal = sheetRefusal sheet; table = cond (eqb (sheetRefusal sheet) 0) (tableOf sheet) noTable }
+
+-- the refusal of a write: the table's, then 11, "the lent output is shorter than what is to be written"
+unfoldable pub writeRefusal : Table → List ℕ → ℕ
+writeRefusal t out = orElse (tableRefusal t) (cond (ltb (length out) (sizeOf (t .count))) 11 0)
+
+-- `write`: the refusal beside the number of bytes written
+unfoldable pub writeAnswer : Table → List ℕ → Writing
+writeAnswer t out = record { refusal = writeRefusal t out; written = cond (eqb (writeRefusal t out) 0) (sizeOf (t .count)) 0 }
+
+-- the output after `write`: the sheet and then the bytes as they were, or all of it as it was
+unfoldable pub writeLeaves : Table → List ℕ → List ℕ
+writeLeaves t out = cond (eqb (writeRefusal t out) 0) (sheetOf t ++ drop (sizeOf (t .count)) out) out
+
+-- `judge_place`: the sheet's refusal, then 12, "the record place asked for is not below the count"
+unfoldable pub placeRefusal : List ℕ → ℕ → ℕ
+placeRefusal sheet place = orElse (sheetRefusal sheet) (cond (ltb place (countOf sheet)) 0 12)
+
+-- where in the sheet the part handed back starts: at the record, or at the sheet's start where it is refused
+unfoldable pub partStart : List ℕ → ℕ → ℕ
+partStart sheet place = cond (eqb (placeRefusal sheet place) 0) (3 + 9 * place) 0
+
+-- its bytes: the record's nine, or none
+unfoldable pub partBytes : List ℕ → ℕ → List ℕ
+partBytes sheet place = cond (eqb (placeRefusal sheet place) 0) (partOf sheet place) []
+
+-- `record_part`: the part is pinned to its place in the lent sheet, its block and offset, and not only to its bytes
+pub record Part (sheet : RefT (List ℕ)) (place : ℕ) (part : RefT (List ℕ)) : Type 0 where
+  pub block : part .ptr .0 ≡ sheet .ptr .0
+  pub offset : part .ptr .1 ≡ sheet .ptr .1 + partStart (now sheet) place
+  pub content : now part ≡ partBytes (now sheet) place
+
+-- `record_of`: the refusal of `judge_place` beside the part of `record_part`
+pub record Excerpted (sheet : RefT (List ℕ)) (place : ℕ) (excerpt : Excerpt) : Type 0 where
+  pub refusal : excerpt .refusal ≡ placeRefusal (now sheet) place
+  pub part : Part sheet place (excerpt .part)

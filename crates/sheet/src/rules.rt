@@ -1,0 +1,126 @@
+// The rules of document 01, 1 to 10, as code: over a sheet, over the nine bytes of one record, and over records by value.
+// Which priorities earlier records have is kept as sixteen marks, one for each value of the sheet's four bits.
+ghost use mathlib.Core.Path.{_≡_};
+ghost use mathlib.Core.Bool.{true, false};
+ghost use Prim.Native.Nat.{_≤_};
+ghost use lib.ListN.{length, getD, set};
+ghost use Rattle.sheet.specs.Layout.{sizeOf, recordOf, sheetRecord, recordAt};
+ghost use Rattle.sheet.specs.Rules.{outside, refusalOf, headerRefusal, recordsRefusal};
+use crate::Record;
+use crate::layout;
+
+// Whether a number is 0 or above the limit.
+pub fn outside(x: u16, limit: u16) -> bool
+    ensures { λ r. ⌜ r ≡ outside x limit ⌝ }
+{
+    if x == 0 {
+        return true;
+    }
+    limit < x
+}
+
+// Rules 1 to 5.
+pub fn judge_header(sheet: &[u8]) -> u8
+    ensures { λ r. ⌜ r ≡ headerRefusal (now (sheet .entry)) ⌝ }
+{
+    if sheet.len() < 3 {
+        return 1;
+    }
+    let count = layout::count(sheet);
+    if outside(count as u16, 8) {
+        return 2;
+    }
+    if layout::reserved(sheet) != 0 {
+        return 3;
+    }
+    if sheet.len() != layout::size(count) {
+        return 4;
+    }
+    if layout::interval(sheet) == 0 {
+        return 5;
+    }
+    0
+}
+
+// Whether the priority is marked; a priority that no mark is kept for is not.
+fn is_marked(marks: [bool; 16], priority: u8) -> bool
+    ensures { λ r. ⌜ r ≡ getD marks priority false ⌝ }
+{
+    let level = priority as usize;
+    if level < 16 { marks[level] } else { false }
+}
+
+// Rules 6 to 10 for one record.
+fn judge_record(task: Record, count: u8, is_taken: bool) -> u8
+    ensures { λ r. ⌜ r ≡ refusalOf count «is_taken» task ⌝ }
+{
+    if outside(task.cost, task.deadline) {
+        return 6;
+    }
+    if outside(task.backup, task.deadline) {
+        return 7;
+    }
+    if task.period < task.deadline {
+        return 8;
+    }
+    if outside(task.priority as u16, count as u16) {
+        return 9;
+    }
+    if is_taken {
+        return 9;
+    }
+    if outside(task.fault_priority as u16, task.priority as u16) {
+        return 10;
+    }
+    0
+}
+
+// Rules 6 to 10 for the record that nine bytes of a sheet hold.
+fn judge_part(part: &[u8], count: u8, marks: [bool; 16]) -> u8
+    requires { ⌜ length (now part) ≡ 9 ⌝ }
+    ensures { λ r. ⌜ r ≡ refusalOf count (getD marks (recordOf (now (part .entry)) .priority) false) (recordOf (now (part .entry))) ⌝ }
+{
+    let task = layout::record_from(part);
+    judge_record(task, count, is_marked(marks, task.priority))
+}
+
+// Rules 6 to 10 for each record of a sheet of the right length, in order.
+pub fn judge_parts(sheet: &[u8], count: u8) -> u8
+    requires { ⌜ (count ≤ 8) × (length (now sheet) ≡ sizeOf count) ⌝ }
+    ensures { λ r. ⌜ r ≡ recordsRefusal count (sheetRecord (now (sheet .entry))) ⌝ }
+{
+    let mut marks = [false; 16];
+    let mut place: usize = 0;
+    while place < count as usize {
+        let start = 3 + 9 * place;
+        let end = start + 9;
+        let refusal = judge_part(&sheet[start..end], count, marks);
+        if refusal != 0 {
+            return refusal;
+        }
+        let level = layout::priority_from(&sheet[start..end]) as usize;
+        marks[level] = true;
+        place += 1;
+    }
+    0
+}
+
+// The same for the records of a table, those past the count ignored.
+pub fn judge_records(records: [Record; 8], count: u8) -> u8
+    requires { ⌜ count ≤ 8 ⌝ }
+    ensures { λ r. ⌜ r ≡ recordsRefusal count (recordAt records) ⌝ }
+{
+    let mut marks = [false; 16];
+    let mut place: usize = 0;
+    while place < count as usize {
+        let task = records[place];
+        let refusal = judge_record(task, count, is_marked(marks, task.priority));
+        if refusal != 0 {
+            return refusal;
+        }
+        let level = task.priority as usize;
+        marks[level] = true;
+        place += 1;
+    }
+    0
+}
