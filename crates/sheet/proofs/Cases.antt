@@ -33,6 +33,10 @@ within x limit e =
     let some : x ≡ 0 → ⊥ = eqb-false x 0 (tests .0) in
     omega (arith, ltb-false limit x (tests .1))
 
+pub outside-within : (x limit : ℕ) → (1 ≤ x) × (x ≤ limit) → outside x limit ≡ false
+unfolding outside
+outside-within x limit h = simp (ne-eqb x 0 (λ e. omega arith), le-ltb limit x (h .1))
+
 -- what a record that none of the rules 6 to 10 refuses is known for
 pub record Good (n : ℕ) (isTaken : Bool) (r : Record) : Type 0 where
   pub cost : (1 ≤ r .cost) × (r .cost ≤ r .deadline)

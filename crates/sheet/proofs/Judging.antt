@@ -10,7 +10,7 @@ use borrow.Author.Tests.{lt-ltb, ne-eqb}
 use lib.ListN.{length, getD, set, replicate, length-set}
 use Rattle.sheet.specs.declared.Record.{Record}
 use Rattle.sheet.specs.Places.{firstBelow}
-use Rattle.sheet.specs.Rules.{outside, taken, refusalOf, recordRefusal, recordsRefusal}
+use Rattle.sheet.specs.Rules.{outside, refusalOf, recordRefusal, recordsRefusal}
 use Rattle.sheet.proofs.Turns.{Marks, marks-none, marks-more, first-more, first-found}
 use Rattle.sheet.proofs.Cases.{good-record}
 

@@ -8,3 +8,7 @@ pub mod Tells
 pub mod Order
 pub mod Judging
 pub mod Stores
+pub mod Agree
+pub mod Return
+pub mod Demands
+pub mod Unique

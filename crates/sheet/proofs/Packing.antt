@@ -2,7 +2,7 @@
 -- Assumes nothing.
 use Prim.Native.Nat.{ℕ, _+_, _*_, _/_, _%_, _^_, _<_}
 use mathlib.Core.Path.{_≡_, refl, sym, ap, ap₂, _∙_, subst}
-use mathlib.Core.List.{List, [], _∷_, _++_}
+use mathlib.Core.List.{List, [], _∷_}
 use native.Mathlib.Nat.{mod-lt, add-comm, add-assoc, mul-assoc, add-mul}
 use lib.Dec.{lit<}
 use lib.Pow.{pow-pos, pow-add, shr-lt, shr-shr, mod-pow-add, split, high, low}

@@ -13,13 +13,12 @@ use Rattle.sheet.specs.Layout.{headerWidths, recordWidths, bytes, header
 use Rattle.sheet.proofs.Packing.{Fit, none, one, join-first, split-first}
 
 -- the first n values of a function, as a list
-spelled : {A : Type 0} → ℕ → (ℕ → A) → List A
+abbrev pub spelled : {A : Type 0} → ℕ → (ℕ → A) → List A
 spelled zero f = []
 spelled (suc n) f = f 0 ∷ spelled n (λ k. f (suc k))
 
 -- the start of a list, element by element
-spelled-take : {A : Type 0} (n : ℕ) (l : List A) (d : A) → n ≤ length l → spelled n (λ k. getD l k d) ≡ take n l
-unfolding spelled
+pub spelled-take : {A : Type 0} (n : ℕ) (l : List A) (d : A) → n ≤ length l → spelled n (λ k. getD l k d) ≡ take n l
 spelled-take zero l d h = refl
 spelled-take (suc n) [] d h = absurd (not-suc-le-zero h)
 spelled-take (suc n) (x ∷ l) d h = ap (λ (r : List _). x ∷ r) (spelled-take n l d (le-of-suc-le-suc h))
@@ -39,7 +38,6 @@ regrouped-none = refl
 
 -- the header's fields by its bytes
 header-fields : (f : ℕ → ℕ) → ((k : ℕ) → f k < 256) → regrouped (bytes 3) headerWidths (spelled 3 f) ≡ f 0 / 16 ∷ f 0 % 16 ∷ (f 1 * 256 + f 2) ∷ []
-unfolding spelled
 header-fields f h =
     split-first 4 4 (f 0) (16 ∷ []) (one (h 1) (one (h 2) none)) refl
     ∙ ap (λ (r : List ℕ). f 0 / 16 ∷ f 0 % 16 ∷ r) (join-first 8 8 (f 1) (f 2) [] none refl ∙ ap (λ (r : List ℕ). (f 1 * 256 + f 2) ∷ r) regrouped-none)
@@ -47,7 +45,6 @@ header-fields f h =
 -- a record's fields by its bytes
 record-fields : (f : ℕ → ℕ) → ((k : ℕ) → f k < 256)
     → regrouped (bytes 9) recordWidths (spelled 9 f) ≡ (f 0 * 256 + f 1) ∷ (f 2 * 256 + f 3) ∷ (f 4 * 256 + f 5) ∷ (f 6 * 256 + f 7) ∷ f 8 / 16 ∷ f 8 % 16 ∷ []
-unfolding spelled
 record-fields f h =
     join-first 8 8 (f 0) (f 1) (16 ∷ 16 ∷ 16 ∷ 4 ∷ 4 ∷ []) from-2 refl
     ∙ ap (λ (r : List ℕ). (f 0 * 256 + f 1) ∷ r) (join-first 8 8 (f 2) (f 3) (16 ∷ 16 ∷ 4 ∷ 4 ∷ []) from-4 refl
@@ -71,7 +68,7 @@ record-fields f h =
 -- a sheet of three bytes or more has its count, reserved bits and interval in these
 module _ (sheet : List ℕ) (long : 3 ≤ length sheet) (h : Bytes sheet) where
   header-spelled : headerOf sheet ≡ getD sheet 0 0 / 16 ∷ getD sheet 0 0 % 16 ∷ (getD sheet 1 0 * 256 + getD sheet 2 0) ∷ []
-  unfolding headerOf spelled
+  unfolding headerOf
   header-spelled = ap (regrouped (bytes 3) headerWidths) (sym (spelled-take 3 sheet 0 long)) ∙ header-fields (λ k. getD sheet k 0) h
 
   pub count-spelled : countOf sheet ≡ getD sheet 0 0 / 16

@@ -3,7 +3,7 @@
 ghost use mathlib.Core.Path.{_≡_};
 ghost use mathlib.Core.Bool.{true, false};
 ghost use Prim.Native.Nat.{_≤_};
-ghost use lib.ListN.{length, getD, set};
+ghost use lib.ListN.{length, getD};
 ghost use Rattle.sheet.specs.Layout.{sizeOf, recordOf, sheetRecord, recordAt};
 ghost use Rattle.sheet.specs.Rules.{outside, refusalOf, headerRefusal, recordsRefusal};
 use crate::Record;

@@ -2,10 +2,9 @@
 use mathlib.Core.Path.{_≡_, sym, _∙_}
 use borrow.Author.Tests.{lt-ltb, le-ltb}
 use Rattle.sheet.specs.Rules.{sheetRefusal}
-use Rattle.sheet.specs.Layout.{countOf}
 use Rattle.sheet.specs.Answers.{placeRefusal}
 use Rattle.sheet.proofs.Turns.{first-of, next-of}
-use Rattle.sheet.proofs.Cases.{GoodHeader, good-sheet}
+use Rattle.sheet.proofs.Cases.{good-sheet}
 use borrow.Author.Needs.{needs}
 use Rattle.sheet.proofs.judge_place.Statement.{statement}
 use Rattle.sheet.proofs.judge_place.Tie as tie

@@ -1,6 +1,6 @@
 -- `sheet::read` meets its contract. Assumes nothing.
-use mathlib.Core.Path.{_≡_, _∙_}
-use borrow.Author.Tests.{ne-eqb, eq-eqb}
+use mathlib.Core.Path.{_≡_}
+use borrow.Author.Tests.{ne-eqb}
 use Rattle.sheet.specs.Rules.{sheetRefusal}
 use Rattle.sheet.specs.Answers.{readAnswer}
 use Rattle.sheet.proofs.Cases.{GoodHeader, good-sheet}

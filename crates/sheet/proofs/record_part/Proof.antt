@@ -4,7 +4,7 @@ use mathlib.Core.Path.{_≡_, refl}
 use native.Mathlib.Nat.{add-zero, add-comm}
 use borrow.Author.Tests.{ne-eqb}
 use native.Mathlib.Omega.{arith}
-use Rattle.sheet.specs.Answers.{Part, placeRefusal, partStart, partBytes}
+use Rattle.sheet.specs.Answers.{placeRefusal, partStart, partBytes}
 use Rattle.sheet.proofs.Cases.{good-place}
 use Rattle.sheet.proofs.Parts.{part-at, part-end}
 use borrow.Author.Needs.{needs}

@@ -1,8 +1,7 @@
 -- `sheet::write` meets its contract: refused, the output is as it was; else it starts with the sheet. Assumes nothing.
-use mathlib.Core.Path.{_≡_, sym, _∙_}
+use mathlib.Core.Path.{sym, _∙_}
 use borrow.Author.Tests.{ne-eqb}
-use Rattle.sheet.specs.Rules.{tableRefusal}
-use Rattle.sheet.specs.Answers.{writeRefusal, writeAnswer, writeLeaves}
+use Rattle.sheet.specs.Answers.{writeAnswer, writeLeaves}
 use Rattle.sheet.proofs.Cases.{write-refused, write-short, write-fits}
 use borrow.Author.Needs.{needs}
 use Rattle.sheet.proofs.write.Statement.{statement}

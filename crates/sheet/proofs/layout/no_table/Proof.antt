@@ -2,7 +2,6 @@
 use mathlib.Core.Path.{ap}
 use lib.ListN.{replicate}
 use Rattle.sheet.specs.declared.Record.{Record}
-use Rattle.sheet.specs.declared.Table.{Table}
 use borrow.Author.Needs.{needs}
 use Rattle.sheet.proofs.layout.no_table.Statement.{statement}
 use Rattle.sheet.proofs.layout.no_table.Tie as tie

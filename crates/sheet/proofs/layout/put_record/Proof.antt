@@ -1,11 +1,7 @@
 -- `sheet::layout::put_record` meets its contract: nine stores, one after the other. Assumes nothing.
-use mathlib.Core.Path.{sym, ap, _∙_}
-use mathlib.Core.List.{List}
 use native.Mathlib.Numerals.{towards-suc}
 use native.Mathlib.Omega.{arith}
-use Prim.Native.Nat.{ℕ}
 use lib.ListN.{length-set}
-use lib.Seq.{sets}
 use Rattle.sheet.proofs.Spelled.{record-put}
 use borrow.Author.Needs.{needs}
 use Rattle.sheet.proofs.layout.put_record.Statement.{statement}

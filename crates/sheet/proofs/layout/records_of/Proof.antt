@@ -1,9 +1,8 @@
 -- `sheet::layout::records_of` meets its contract: before each turn the records below the place are filled. Assumes nothing.
 use Prim.Native.Nat.{_≤_, _-_}
-use mathlib.Core.Path.{_≡_, sym, ap, _∙_}
+use mathlib.Core.Path.{_≡_, ap, _∙_}
 use native.Mathlib.Omega.{arith}
 use lib.ListN.{length, replicate}
-use Rattle.sheet.specs.declared.Record.{Record}
 use Rattle.sheet.specs.Places.{filledBelow}
 use Rattle.sheet.specs.Layout.{sheetRecord, noRecord, room}
 use Rattle.sheet.proofs.Turns.{fill-more}

@@ -1,10 +1,10 @@
 -- `sheet::rules::judge_parts` meets its contract: the records below the place are good, and their priorities marked. Assumes nothing.
 use Prim.Native.Nat.{ℕ, _-_, _<_, _+_}
 use mathlib.Core.Path.{_≡_, sym, ap, subst, _∙_}
-use mathlib.Core.Bool.{Bool, true, false}
+use mathlib.Core.Bool.{true, false}
 use mathlib.Core.List.{List}
 use lib.ListN.{length, getD, set}
-use Rattle.sheet.specs.Layout.{sheetRecord}
+use Rattle.sheet.specs.Layout.{recordOf, sheetRecord}
 use Rattle.sheet.specs.Rules.{refusalOf}
 use Rattle.sheet.proofs.Judging.{Judging, judging-start, judging-more, judging-found, judging-done, level-small}
 use Rattle.sheet.proofs.Parts.{part-at, part-end, part-nine}
@@ -17,6 +17,27 @@ Inv-loop sheet count marks₀ place₀ marks place = Judging count (sheetRecord 
 
 abbrev μ-loop : tie.MeasureT-loop
 μ-loop sheet count marks₀ place₀ marks place = count - place
+
+-- the part's refusal is that of the record at the place
+judged : (c : tie.After-judge-part Inv-loop μ-loop)
+    → let turn = c .before .before in
+    let at = turn .before .loop in
+    let given = turn .before .before .before in
+    let task = sheetRecord (given .args .sheet .now) (at .place) in
+    c .judge-part .result ≡ refusalOf (given .args .count) (getD (at .marks) (task .priority) false) task
+unfolding sheetRecord
+judged c =
+    let at = c .before .before .before .loop in
+    let given = c .before .before .before .before .before in
+    c .judge-part .ensures ∙ ap (λ (part : List ℕ). refusalOf (given .args .count) (getD (at .marks) (recordOf part .priority) false) (recordOf part)) (part-at (given .args .sheet .now) (at .place))
+
+-- the level marked is that record's priority
+level : (c : tie.After-priority-from Inv-loop μ-loop)
+    → let turn = c .before .before .before .before .before in sheetRecord (turn .before .before .before .args .sheet .now) (turn .before .loop .place) .priority ≡ c .priority-from .result
+unfolding sheetRecord
+level c =
+    let turn = c .before .before .before .before .before in
+    sym (c .priority-from .ensures ∙ ap (λ (part : List ℕ). recordOf part .priority) (part-at (turn .before .before .before .args .sheet .now) (turn .before .loop .place)))
 
 loop-holds : tie.Need-loop-holds Inv-loop μ-loop
 loop-holds c = judging-start _ _ (c .before .pre .0)
@@ -47,15 +68,11 @@ judge-part-requires c κs =
     ap length (part-at _ _) ∙ part-nine _ _ _ (turn .before .before .before .pre .1) (turn .loop-test .taken)
 
 returns : tie.Need-returns Inv-loop μ-loop
-unfolding sheetRecord
 returns c =
     let turn = c .before .before .before in
     let at = turn .before .loop in
     let given = turn .before .before .before in
-    let sheet = given .args .sheet .now in
-    let task = sheetRecord sheet (at .place) in
-    let said : c .before .judge-part .result ≡ refusalOf (given .args .count) (getD (at .marks) (task .priority) false) task = cc (part-at sheet (at .place)) in
-    said ∙ judging-found _ _ (given .pre .0) _ _ (at .inv) (turn .loop-test .taken) (λ e. c .if1 .taken (said ∙ e))
+    judged (c .before) ∙ judging-found _ _ (given .pre .0) _ _ (at .inv) (turn .loop-test .taken) (λ e. c .if1 .taken (judged (c .before) ∙ e))
 
 sub-priority-from : tie.Need-sub-priority-from Inv-loop μ-loop
 sub-priority-from c = search needs
@@ -78,14 +95,13 @@ cast-level : tie.Need-cast-level Inv-loop μ-loop
 cast-level c = search needs
 
 array-write-marks : tie.Need-array-write-marks Inv-loop μ-loop
-unfolding sheetRecord
 array-write-marks c =
-    let turn = c .before .before .before .before .before in
+    let went = c .before .before in
+    let turn = went .before .before .before in
     let at = turn .before .loop in
     let given = turn .before .before .before in
-    let sheet = given .args .sheet .now in
-    let level : sheetRecord sheet (at .place) .priority ≡ c .priority-from .result = cc (part-at sheet (at .place)) in
-    subst (λ (k : ℕ). k < 16) level (level-small _ (sheetRecord sheet) (given .pre .0) (at .marks) (at .place) (at .inv) (turn .loop-test .taken) (cc (part-at sheet (at .place))))
+    subst (λ (k : ℕ). k < 16) (level c)
+    (level-small _ (sheetRecord (given .args .sheet .now)) (given .pre .0) (at .marks) (at .place) (at .inv) (turn .loop-test .taken) (sym (judged (went .before)) ∙ went .if1 .left))
 
 add-place : tie.Need-add-place Inv-loop μ-loop
 add-place c = search needs
@@ -94,15 +110,14 @@ loop-less : tie.Need-loop-less Inv-loop μ-loop
 loop-less c = search needs
 
 loop-again : tie.Need-loop-again Inv-loop μ-loop
-unfolding sheetRecord
 loop-again c =
-    let turn = c .before .before .before .before .before in
+    let went = c .before .before in
+    let turn = went .before .before .before in
     let at = turn .before .loop in
     let given = turn .before .before .before in
     let sheet = given .args .sheet .now in
-    let level : sheetRecord sheet (at .place) .priority ≡ c .priority-from .result = cc (part-at sheet (at .place)) in
-    subst (λ (k : ℕ). Judging (given .args .count) (sheetRecord sheet) (set (at .marks) k true) (at .place + 1)) level
-    (judging-more _ (sheetRecord sheet) (given .pre .0) (at .marks) (at .place) (at .inv) (turn .loop-test .taken) (cc (part-at sheet (at .place))))
+    subst (λ (k : ℕ). Judging (given .args .count) (sheetRecord sheet) (set (at .marks) k true) (at .place + 1)) (level c)
+    (judging-more _ (sheetRecord sheet) (given .pre .0) (at .marks) (at .place) (at .inv) (turn .loop-test .taken) (sym (judged (went .before)) ∙ went .if1 .left))
 
 returns-2 : tie.Need-returns-2 Inv-loop μ-loop
 returns-2 c = judging-done _ _ (c .before .before .before .pre .0) _ _ (c .before .loop .inv) (c .loop-test .left)

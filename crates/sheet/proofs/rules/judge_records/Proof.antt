@@ -1,6 +1,6 @@
 -- `sheet::rules::judge_records` meets its contract: the records below the place are good, and their priorities marked. Assumes nothing.
 use Prim.Native.Nat.{_-_}
-use mathlib.Core.Path.{_≡_, sym, _∙_}
+use mathlib.Core.Path.{_≡_, _∙_}
 use mathlib.Core.Bool.{false}
 use lib.ListN.{getD}
 use Rattle.sheet.specs.Layout.{recordAt}
