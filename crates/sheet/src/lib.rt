@@ -89,10 +89,10 @@ pub fn read(sheet: &[u8]) -> Reading
 pub fn write(table: Table, out: &mut [u8]) -> Writing
     ensures { λ r. ⌜ (r ≡ writeAnswer table (now (out .entry))) × (now (out .exit) ≡ writeLeaves table (now (out .entry))) ⌝ }
 {
-    let refusal = judge_table(table);
-    if refusal != 0 {
+    let broken = judge_table(table);
+    if broken != 0 {
         return Writing {
-            refusal,
+            refusal: broken,
             written: 0,
         };
     }

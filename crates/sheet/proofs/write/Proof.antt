@@ -1,5 +1,7 @@
 -- `sheet::write` meets its contract: refused, the output is as it was; else it starts with the sheet. Assumes nothing.
-use mathlib.Core.Path.{sym, _∙_}
+use Prim.Native.Nat.{ℕ, _<_}
+use mathlib.Core.Path.{sym, subst, _∙_}
+use lib.ListN.{length}
 use borrow.Author.Tests.{ne-eqb}
 use Rattle.sheet.specs.Answers.{writeAnswer, writeLeaves}
 use Rattle.sheet.proofs.Cases.{write-refused, write-short, write-fits}
@@ -25,7 +27,7 @@ returns-2 : tie.Need-returns-2
 unfolding writeAnswer writeLeaves
 returns-2 c =
     let given = c .before .before .before .before .before in
-    let short = rw (c .before .size .ensures) at (c .if2 .taken) in
+    let short = subst (λ (n : ℕ). length (given .args .out .now) < n) (c .before .size .ensures) (c .if2 .taken) in
     let refusal = write-short (given .args .table) (given .args .out .now) (cc) short in
     (simp refusal, simp refusal)
 
