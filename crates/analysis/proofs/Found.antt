@@ -1,0 +1,57 @@
+-- What each climb finds: the time struck elsewhere, L1, and the time of stage two. Assumes nothing.
+use Prim.Native.Nat.{ℕ, _+_, _≤_}
+use mathlib.Core.Path.{_≡_, refl, ap₂, _∙_}
+use mathlib.Core.List.{List, []}
+use lib.ListN.{getD}
+use Rattle.sheet.specs.declared.Table.{Table}
+use Rattle.sheet.specs.Layout.{recordAt}
+use Rattle.analysis.specs.declared.Demand.{Demand}
+use Rattle.analysis.specs.Tasks.{Tasks, tasksOf}
+use Rattle.analysis.specs.Backups.{others, everyone, largestBackup, backupElsewhere, backupFromFault, backupAfter}
+use Rattle.analysis.specs.Equations.{struckElsewhere, stageOne, stageTwo}
+use Rattle.analysis.specs.Search.{leastWithin}
+use Rattle.analysis.specs.Response.{timeElsewhere, lengthOne}
+use Rattle.analysis.specs.Demand.{loadOf, demandOf}
+use Rattle.analysis.proofs.Climbing.{least-agree}
+use Rattle.analysis.proofs.Tied.{demandElsewhere, demandOne, demandTwo, elsewhere-tied, one-tied, two-tied, nobody-out}
+
+-- the demand does not read the fault priorities
+faultless : (t : Table) (interval : ℕ) (choice : List ℕ) (d : Demand) (L : ℕ) → demandOf (tasksOf t interval []) d L ≡ demandOf (tasksOf t interval choice) d L
+unfolding demandOf loadOf
+faultless t interval choice d L = refl
+
+module _ (t : Table) (interval : ℕ) (choice : List ℕ) (i : ℕ) where
+  -- the tasks that the climb is about
+  abbrev tasks : Tasks
+  tasks = tasksOf t interval choice
+
+  pub elsewhere-found : {base backup limit : ℕ} → base ≡ recordAt (t .records) i .cost → backup ≡ largestBackup (tasksOf t 0 choice) (others i) (recordAt (t .records) i .priority) → limit ≡ recordAt (t .records) i .deadline
+      → leastWithin (demandOf (tasksOf t interval []) (record { base = base; level = recordAt (t .records) i .priority; omitted = i; backup = backup; paid = 0 })) 1 limit ≡ timeElsewhere tasks i
+  unfolding timeElsewhere backupElsewhere largestBackup
+  elsewhere-found b m l =
+      ap₂ (λ (d : Demand) (n : ℕ). leastWithin (demandOf (tasksOf t interval []) d) 1 n) (λ j. record { base = b j; level = recordAt (t .records) i .priority; omitted = i; backup = m j; paid = 0 }) l
+      ∙ least-agree _ (struckElsewhere tasks i) 1 _ (λ L low. faultless t interval choice (demandElsewhere tasks i) L ∙ elsewhere-tied tasks i L)
+
+  module _ (few : t .count ≤ 8) where
+    -- where no record is left out, the largest backup is that of all
+    all-meant : {backup : ℕ} (level : ℕ) → backup ≡ largestBackup (tasksOf t 0 choice) (others 8) level → backup ≡ largestBackup (tasksOf t 0 choice) everyone level
+    all-meant level m = m ∙ nobody-out (tasksOf t 0 choice) level few
+
+    pub one-found : {base backup paid limit : ℕ} → 1 ≤ interval → base ≡ recordAt (t .records) i .backup → backup ≡ largestBackup (tasksOf t 0 choice) (others 8) (getD choice i 0) → paid ≡ backup → limit ≡ recordAt (t .records) i .deadline
+        → leastWithin (demandOf (tasksOf t interval []) (record { base = base; level = getD choice i 0; omitted = i; backup = backup; paid = paid })) 1 limit ≡ lengthOne tasks i
+    unfolding lengthOne backupFromFault largestBackup
+    one-found some b m p l =
+        let n = all-meant (getD choice i 0) m in
+        ap₂ (λ (d : Demand) (n : ℕ). leastWithin (demandOf (tasksOf t interval []) d) 1 n) (λ j. record { base = b j; level = getD choice i 0; omitted = i; backup = n j; paid = (p ∙ n) j }) l
+        ∙ least-agree _ (stageOne tasks i) 1 _ (λ L low. faultless t interval choice (demandOne tasks i) L ∙ one-tied tasks i L some low)
+
+    pub two-found : (first : ℕ) {base backup paid limit : ℕ} → base ≡ first + recordAt (t .records) i .cost → backup ≡ largestBackup (tasksOf t 0 choice) (others 8) (recordAt (t .records) i .priority)
+        → paid ≡ loadOf (tasksOf t interval []) (record { base = base; level = recordAt (t .records) i .priority; omitted = i; backup = backup; paid = 0 }) first → limit ≡ recordAt (t .records) i .deadline
+        → leastWithin (demandOf (tasksOf t interval []) (record { base = base; level = recordAt (t .records) i .priority; omitted = i; backup = backup; paid = paid })) first limit
+        ≡ leastWithin (stageTwo tasks i first) first (recordAt (t .records) i .deadline)
+    unfolding backupAfter largestBackup loadOf
+    two-found first b m p l =
+        let k = all-meant (recordAt (t .records) i .priority) m in
+        let q = p ∙ ap₂ (λ (x y : ℕ). loadOf (tasksOf t interval []) (record { base = x; level = recordAt (t .records) i .priority; omitted = i; backup = y; paid = 0 }) first) b k in
+        ap₂ (λ (d : Demand) (n : ℕ). leastWithin (demandOf (tasksOf t interval []) d) first n) (λ j. record { base = b j; level = recordAt (t .records) i .priority; omitted = i; backup = k j; paid = q j }) l
+        ∙ least-agree _ (stageTwo tasks i first) first _ (λ L low. faultless t interval choice (demandTwo tasks i first) L ∙ two-tied tasks i first L low)

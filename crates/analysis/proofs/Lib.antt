@@ -1,0 +1,7 @@
+-- Laws that belong to no one function.
+pub mod Rounding
+pub mod Totalled
+pub mod Climbing
+pub mod Tied
+pub mod Found
+pub mod Verdicts

@@ -1,0 +1,35 @@
+-- Rounding up, for every a and every b ≥ 1: the least k with a ≤ k × b, rising with a. Assumes nothing.
+use Prim.Native.Nat.{ℕ, zero, suc, _+_, _-_, _*_, _≤_, _<_, zero-le, suc-le-suc}
+use mathlib.Core.Path.{sym, subst, _∙_}
+use native.Mathlib.Nat.{le-div-iff-mul-le, div-lt-iff-lt-mul, div-mul-le-self, div-zero, div-add-mod', mod-lt, mul-le-mul, mul-le-mul-left, mul-one, one-mul, suc-mul, le-trans, le-of-eq, le-of-suc-le-suc}
+use native.Mathlib.Omega.{arith}
+use Rattle.analysis.specs.Rounding.{up}
+
+-- it rises with a
+pub up-rises : (b : ℕ) {a c : ℕ} → a ≤ c → up a b ≤ up c b
+unfolding up
+up-rises zero {a} {c} h = le-of-eq (div-zero (a + (0 - 1)) ∙ sym (div-zero (c + (0 - 1))))
+up-rises (suc b) {a} {c} h = le-div-iff-mul-le (suc-le-suc zero-le) .1 (le-trans (div-mul-le-self (a + (suc b - 1)) (suc b)) (omega arith))
+
+module _ (a b : ℕ) (some : 1 ≤ b) where
+  -- so many b make at least a
+  pub up-enough : a ≤ up a b * b
+  unfolding up
+  up-enough = omega (arith, div-add-mod' (a + (b - 1)) b, mod-lt (a + (b - 1)) some)
+
+  -- and fewer do not
+  pub up-least : (k : ℕ) → a ≤ k * b → up a b ≤ k
+  unfolding up
+  up-least k h = le-of-suc-le-suc (div-lt-iff-lt-mul some .1 (rw (suc-mul k b) (omega arith)))
+
+  -- so there are no more than a of them, and one at least where a is not 0
+  pub up-small : up a b ≤ a
+  up-small = up-least a (subst (λ (n : ℕ). n ≤ a * b) (mul-one a) (mul-le-mul-left a some))
+
+  pub up-some : 1 ≤ a → 1 ≤ up a b
+  unfolding up
+  up-some h = le-div-iff-mul-le some .1 (rw (one-mul b) (omega arith))
+
+-- a product of two numbers of 16 bits
+pub wide-product : {a b : ℕ} → a < 65536 → b < 65536 → a * b ≤ 4294836225
+wide-product ha hb = mul-le-mul (le-of-suc-le-suc ha) (le-of-suc-le-suc hb)

@@ -1,0 +1,60 @@
+-- The response and the verdict case by case. Assumes nothing.
+use Prim.Native.Nat.{ℕ, zero, suc, _+_, _<_, max}
+use mathlib.Core.Path.{_≡_, refl, sym, ap, ap₂, _∙_}
+use mathlib.Core.Bool.{Bool, true, false, _||_}
+use mathlib.Core.Logic.{_⊎_, ⊎-elim}
+use native.Mathlib.Nat.{eq-or-lt-of-le, le-of-suc-le-suc, not-suc-le-zero}
+use native.Mathlib.Numerals.{add-one}
+use borrow.Author.Tests.{eq-eqb, ne-eqb}
+use lib.Dec.{eqb}
+use Rattle.sheet.specs.Places.{someBelow}
+use Rattle.analysis.specs.Tasks.{Tasks}
+use Rattle.analysis.specs.Equations.{stageTwo}
+use Rattle.analysis.specs.Search.{leastWithin}
+use Rattle.analysis.specs.Response.{timeElsewhere, lengthOne, timeItself, responseTime}
+
+module _ (s : Tasks) (i : ℕ) where
+  pub itself-none : lengthOne s i ≡ 0 → 0 ≡ timeItself s i
+  unfolding timeItself
+  itself-none e = simp (eq-eqb (lengthOne s i) 0 e)
+
+  pub itself-some : (lengthOne s i ≡ 0 → ⊥) → leastWithin (stageTwo s i (lengthOne s i)) (lengthOne s i) (s .at i .deadline) ≡ timeItself s i
+  unfolding timeItself
+  itself-some e = simp (ne-eqb (lengthOne s i) 0 e)
+
+  pub late-elsewhere : timeElsewhere s i ≡ 0 → 0 ≡ responseTime s i
+  unfolding responseTime
+  late-elsewhere e = simp (eq-eqb (timeElsewhere s i) 0 e)
+
+  module _ (first : timeElsewhere s i ≡ 0 → ⊥) where
+    pub late-itself : timeItself s i ≡ 0 → 0 ≡ responseTime s i
+    unfolding responseTime
+    late-itself e = simp (ne-eqb (timeElsewhere s i) 0 first, eq-eqb (timeItself s i) 0 e)
+
+    pub on-time : (timeItself s i ≡ 0 → ⊥) → max (timeElsewhere s i) (timeItself s i) ≡ responseTime s i
+    unfolding responseTime
+    on-time second = simp (ne-eqb (timeElsewhere s i) 0 first, ne-eqb (timeItself s i) 0 second)
+
+-- the test whether a record is late
+abbrev pub late : Tasks → ℕ → Bool
+late s i = eqb (responseTime s i) 0
+
+-- a test that holds at no place so far, and not at the next
+pub some-more : (test : ℕ → Bool) (n : ℕ) → someBelow test n ≡ false → test n ≡ false → someBelow test (n + 1) ≡ false
+unfolding someBelow
+some-more test n before here = rw add-one (ap₂ _||_ before here)
+
+-- a test that holds at a place holds at some
+pub some-found : (test : ℕ → Bool) (k n : ℕ) → k < n → test k ≡ true → someBelow test n ≡ true
+unfolding someBelow
+some-found test k zero below here = absurd (not-suc-le-zero below)
+some-found test k (suc n) below here = go (some-found test k n) (eq-or-lt-of-le (le-of-suc-le-suc below))
+  where
+    last : (b : Bool) → (b || true) ≡ true
+    last true = refl
+    last false = refl
+
+    go : (k < n → test k ≡ true → someBelow test n ≡ true) → (k ≡ n) ⊎ (k < n) → (someBelow test n || test n) ≡ true
+    go earlier side =
+        ⊎-elim (λ e. ap (λ (b : Bool). someBelow test n || b) (ap test (sym e) ∙ here) ∙ last (someBelow test n))
+        (λ lt. ap (λ (b : Bool). b || test n) (earlier lt here)) side

@@ -1,0 +1,122 @@
+-- `analysis::workload::load` meets its contract: before each turn the runs of the places below are in the total. Assumes nothing.
+use Prim.Native.Nat.{ℕ, _+_, _*_, _≤_, _-_}
+use mathlib.Core.Path.{_≡_, sym, ap, ap₂, _∙_}
+use mathlib.Core.List.{List}
+use native.Mathlib.Omega.{arith}
+use native.Mathlib.Nat.{zero-add}
+use Rattle.sheet.specs.declared.Record.{Record}
+use Rattle.sheet.specs.Layout.{recordAt}
+use Rattle.sheet.proofs.Cases.{good-table, good-at}
+use Rattle.analysis.specs.Rounding.{up}
+use Rattle.analysis.specs.Totals.{sumBelow}
+use Rattle.analysis.specs.Backups.{others}
+use Rattle.analysis.specs.Demand.{runOf, loadOf}
+use Rattle.analysis.proofs.Rounding.{wide-product}
+use Rattle.analysis.proofs.Totalled.{sum-more}
+use borrow.Author.Needs.{needs}
+use Rattle.analysis.proofs.workload.load.Statement.{statement}
+use Rattle.analysis.proofs.workload.load.Tie as tie
+
+-- what each place brings
+abbrev runs : List Record → ℕ → ℕ → ℕ → ℕ → ℕ
+runs records omitted level length k = runOf (recordAt records k) (others omitted k) level length
+
+abbrev Inv-loop : tie.InvT-loop
+Inv-loop interval length count records omitted level total₀ place₀ total place = (place ≤ count) × (total ≡ sumBelow (runs records omitted level length) place + total₀) × (total ≤ 4294836225 + place * 4294836225)
+
+abbrev μ-loop : tie.MeasureT-loop
+μ-loop interval length count records omitted level total₀ place₀ total place = count - place
+
+cast-count : tie.Need-cast-count Inv-loop μ-loop
+cast-count c = search needs
+
+wide-requires : tie.Need-wide-requires Inv-loop μ-loop
+wide-requires c κs = search needs
+
+up-requires : tie.Need-up-requires Inv-loop μ-loop
+up-requires c κs =
+    omega arith
+
+wide-requires-2 : tie.Need-wide-requires-2 Inv-loop μ-loop
+wide-requires-2 c κs = search needs
+
+mul-total : tie.Need-mul-total Inv-loop μ-loop
+mul-total c =
+    omega (arith, wide-product (c .before .up .ensures .1) (c .wide2 .ensures .1))
+
+loop-holds : tie.Need-loop-holds Inv-loop μ-loop
+unfolding sumBelow
+loop-holds c =
+    (search needs, sym (zero-add _), wide-product (c .before .up .ensures .1) (c .wide2 .ensures .1))
+
+mul-run-of : tie.Need-mul-run-of Inv-loop μ-loop
+mul-run-of c = search needs
+
+array-copy-out-run-of : tie.Need-array-copy-out-run-of Inv-loop μ-loop
+array-copy-out-run-of c =
+    let given = c .before .before .before .before .before .before .before in
+    omega (arith, good-table (given .args .table) (given .pre .0) .count .1)
+
+run-of-requires : tie.Need-run-of-requires Inv-loop μ-loop
+unfolding recordAt
+run-of-requires c κs =
+    let turn = c .before in
+    let given = turn .before .before .before .before .before .before .before in
+    let good = good-table (given .args .table) (given .pre .0) in
+    let task = good-at (given .args .table .count) (recordAt (given .args .table .records)) (good .records) (turn .before .loop .place) (turn .loop-test .taken) in
+    (given .pre .2, omega arith)
+
+add-total : tie.Need-add-total Inv-loop μ-loop
+add-total c =
+    let given = c .before .before .before .before .before .before .before .before .before in
+    omega (arith, good-table (given .args .table) (given .pre .0) .count .1)
+
+add-place : tie.Need-add-place Inv-loop μ-loop
+add-place c = search needs
+
+loop-less : tie.Need-loop-less Inv-loop μ-loop
+loop-less c = search needs
+
+loop-again : tie.Need-loop-again Inv-loop μ-loop
+unfolding recordAt others
+loop-again c =
+    let at = c .before .before .before .loop in
+    let given = c .before .before .before .before .before .before .before .before .before in
+    let each = runs (given .args .table .records) (given .args .demand .omitted) (given .args .demand .level) (given .args .length) in
+    let more = sum-more each (at .place) in
+    let grown : at .total + c .run-of .result ≡ (sumBelow each (at .place) + c .before .before .before .before .before .up .result * c .before .before .before .before .wide2 .result) + each (at .place) = ap₂ _+_ (at .inv .1) (c .run-of .ensures .0) in
+    (search needs, omega arith, omega arith)
+
+returns : tie.Need-returns Inv-loop μ-loop
+unfolding loadOf
+returns c =
+    let given = c .before .before .before .before .before .before .before in
+    let few = good-table (given .args .table) (given .pre .0) .count .1 in
+    let each = runs (given .args .table .records) (given .args .demand .omitted) (given .args .demand .level) (given .args .length) in
+    let all : c .before .loop .place ≡ given .args .table .count = omega arith in
+    let faults = c .before .before .before in (
+      c .before .loop .inv .1
+          ∙ ap₂ _+_ (ap (sumBelow each) all) (ap₂ _*_ (faults .up .ensures .0 ∙ ap (up (given .args .length)) (faults .before .wide .ensures .0)) (c .before .before .wide2 .ensures .0)),
+      omega arith,
+    )
+
+pub load-spec : {M : Type 1} → statement M
+load-spec =
+    tie.close
+    (tie.spec
+    Inv-loop
+    μ-loop
+    cast-count
+    wide-requires
+    up-requires
+    wide-requires-2
+    mul-total
+    loop-holds
+    mul-run-of
+    array-copy-out-run-of
+    run-of-requires
+    add-total
+    add-place
+    loop-less
+    loop-again
+    returns)

@@ -1,0 +1,62 @@
+-- What each public call answers, refusals included; for an answer that is an enum, this paper's number and values for each case.
+use Prim.Native.Nat.{ℕ}
+use mathlib.Core.Bool.{Bool, false, cond}
+use mathlib.Core.List.{List}
+use lib.Dec.{eqb}
+use lib.ListN.{replicate}
+use Rattle.sheet.specs.declared.Table.{Table}
+use Rattle.sheet.specs.Places.{filledBelow}
+use Rattle.sheet.specs.Rules.{tableRefusal}
+use Rattle.analysis.specs.declared.Outcome.{Outcome}
+use Rattle.analysis.specs.declared.Outcome.the-variants.{OnTime, Late}
+use Rattle.analysis.specs.declared.Entry.{Entry}
+use Rattle.analysis.specs.declared.Times.{Times}
+use Rattle.analysis.specs.declared.Passing.{Passing}
+use Rattle.analysis.specs.declared.Interval.{Interval}
+use Rattle.analysis.specs.declared.Interval.the-variants.{Refused, Least, Nothing}
+use Rattle.analysis.specs.Tasks.{Tasks, tasksOf, ownChoice}
+use Rattle.analysis.specs.Search.{firstFrom}
+use Rattle.analysis.specs.Response.{responseTime, passes}
+
+-- "either a time or the word late": late stands for the response that has no value
+unfoldable pub outcomeOf : ℕ → Outcome
+outcomeOf time = cond (eqb time 0) Late (OnTime time)
+
+-- "each record's entry holds its deadline beside either a time or the word late"
+unfoldable pub entryOf : Tasks → ℕ → Entry
+entryOf s i = record { deadline = s .at i .deadline; outcome = outcomeOf (responseTime s i) }
+
+-- "In a refusal, and in entries past the count, an entry is deadline 0 beside time 0"
+abbrev pub noEntry : Entry
+noEntry = record { deadline = 0; outcome = OnTime 0 }
+
+-- a table's tasks under its own interval and its own fault priorities
+abbrev pub ownTasks : Table → Tasks
+ownTasks t = tasksOf t (t .interval) (ownChoice (t .records))
+
+-- `response_times`: the refusal beside eight entries
+unfoldable pub timesAnswer : Table → Times
+timesAnswer t = record { refusal = tableRefusal t; entries = cond (eqb (tableRefusal t) 0) (filledBelow (entryOf (ownTasks t)) (t .count) (replicate 8 noEntry)) (replicate 8 noEntry) }
+
+-- the refusal beside yes or no; "the verdict of a refused call is no"
+unfoldable pub passingOf : ℕ → Bool → Passing
+passingOf refusal yes-or-no = record { refusal = refusal; passes = cond (eqb refusal 0) yes-or-no false }
+
+-- `choice_verdict`: whether the table passes under a choice of fault priorities
+unfoldable pub choiceAnswer : Table → List ℕ → Passing
+choiceAnswer t choice = passingOf (tableRefusal t) (passes (tasksOf t (t .interval) choice))
+
+-- `verdict`: the same under the sheet's own
+unfoldable pub verdictAnswer : Table → Passing
+verdictAnswer t = choiceAnswer t (ownChoice (t .records))
+
+-- "the smallest E from 1 to 65,535 at which the sheet passes with its own fault priorities"; 0 if there is none
+unfoldable pub leastInterval : Table → ℕ
+leastInterval t = firstFrom (λ interval. passes (tasksOf t interval (ownChoice (t .records)))) 1 65535
+
+-- `least_interval`: a refusal's number, the interval, or "none"
+unfoldable pub intervalOf : ℕ → ℕ → Interval
+intervalOf refusal least = cond (eqb refusal 0) (cond (eqb least 0) Nothing (Least least)) (Refused refusal)
+
+unfoldable pub intervalAnswer : Table → Interval
+intervalAnswer t = intervalOf (tableRefusal t) (leastInterval t)

@@ -1,0 +1,10 @@
+-- What a reader of the crate's promises must believe, in the order of document 01; Demand is an inner device that no public promise cites.
+pub mod Rounding
+pub mod Totals
+pub mod Tasks
+pub mod Backups
+pub mod Equations
+pub mod Search
+pub mod Response
+pub mod Answers
+pub mod Demand

@@ -1,0 +1,22 @@
+-- What the equations read: the records, the fault interval E, and a fault priority for each record, which a choice beside the table gives.
+use Prim.Native.Nat.{ℕ}
+use mathlib.Core.List.{List}
+use lib.ListN.{getD, replicate}
+use Rattle.sheet.specs.declared.Record.{Record}
+use Rattle.sheet.specs.declared.Table.{Table}
+use Rattle.sheet.specs.Places.{filledBelow}
+use Rattle.sheet.specs.Layout.{recordAt}
+
+pub record Tasks : Type 0 where
+  pub count : ℕ
+  pub at : ℕ → Record
+  pub interval : ℕ
+  pub fault : ℕ → ℕ
+
+-- a table's tasks under a fault interval and a choice of fault priorities
+abbrev pub tasksOf : Table → ℕ → List ℕ → Tasks
+tasksOf t interval choice = record { count = t .count; at = recordAt (t .records); interval = interval; fault = λ place. getD choice place 0 }
+
+-- the sheet's own fault priorities, as a choice
+unfoldable pub ownChoice : List Record → List ℕ
+ownChoice records = filledBelow (λ place. recordAt records place .«fault_priority») 8 (replicate 8 0)

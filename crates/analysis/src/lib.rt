@@ -1,0 +1,108 @@
+// Response times, the verdict and the least fault interval of a timing table, by the equations of document 01.
+// Every call answers any table: a refused one gets its number, beside zeros, no, or nothing else.
+ghost use mathlib.Core.Path.{_≡_};
+ghost use Rattle.analysis.specs.Answers.{timesAnswer, verdictAnswer, choiceAnswer, intervalAnswer};
+use sheet::Table;
+
+mod response;
+mod search;
+mod workload;
+
+// A response time, or late.
+pub enum Outcome {
+    OnTime(u16),
+    Late,
+}
+
+// One record's answer: its deadline beside its response.
+pub struct Entry {
+    pub deadline: u16,
+    pub outcome: Outcome,
+}
+
+// What `response_times` answers: the refusal, or 0 beside an entry for each record.
+pub struct Times {
+    pub refusal: u8,
+    pub entries: [Entry; 8],
+}
+
+// What `verdict` answers: the refusal, or 0 beside yes or no.
+pub struct Passing {
+    pub refusal: u8,
+    pub passes: bool,
+}
+
+// What `least_interval` answers.
+pub enum Interval {
+    Refused(u8),
+    Least(u16),
+    Nothing,
+}
+
+// One of the three equations as the code computes it: a base, the level above which records run, the record left out,
+// the backup paid for each fault, and what is already paid.
+pub struct Demand {
+    pub base: u64,
+    pub level: u8,
+    pub omitted: usize,
+    pub backup: u16,
+    pub paid: u64,
+}
+
+// Each record's response time, or late, beside its deadline.
+pub fn response_times(table: Table) -> Times
+    ensures { λ r. ⌜ r ≡ timesAnswer table ⌝ }
+{
+    let refusal = sheet::judge_table(table);
+    if refusal != 0 {
+        return Times {
+            refusal,
+            entries: response::no_entries(),
+        };
+    }
+    let entries = response::entries(table);
+    Times {
+        refusal: 0,
+        entries,
+    }
+}
+
+// Whether no task is late.
+pub fn verdict(table: Table) -> Passing
+    ensures { λ r. ⌜ r ≡ verdictAnswer table ⌝ }
+{
+    let records = table.records;
+    choice_verdict(table, response::own_choice(records))
+}
+
+// Whether no task is late under a choice of fault priorities, which takes the place of the sheet's own.
+pub fn choice_verdict(table: Table, choice: [u8; 8]) -> Passing
+    ensures { λ r. ⌜ r ≡ choiceAnswer table choice ⌝ }
+{
+    let refusal = sheet::judge_table(table);
+    if refusal != 0 {
+        return Passing {
+            refusal,
+            passes: false,
+        };
+    }
+    Passing {
+        refusal: 0,
+        passes: response::passes(table, table.interval, choice),
+    }
+}
+
+// The smallest fault interval at which the table passes with its own fault priorities.
+pub fn least_interval(table: Table) -> Interval
+    ensures { λ r. ⌜ r ≡ intervalAnswer table ⌝ }
+{
+    let refusal = sheet::judge_table(table);
+    if refusal != 0 {
+        return Interval::Refused(refusal);
+    }
+    let least = response::least(table);
+    if least == 0 {
+        return Interval::Nothing;
+    }
+    Interval::Least(least)
+}

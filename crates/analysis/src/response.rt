@@ -1,0 +1,224 @@
+// Response times: struck elsewhere, struck itself in two stages, the larger of both; and what is asked of all records together.
+// Fault priorities come from a choice beside the table.
+ghost use mathlib.Core.Path.{_≡_};
+ghost use Prim.Native.Nat.{_≤_, _<_};
+ghost use lib.ListN.{replicate};
+ghost use Rattle.sheet.specs.Rules.{tableRefusal};
+ghost use Rattle.sheet.specs.Places.{filledBelow};
+ghost use Rattle.analysis.specs.Tasks.{tasksOf, ownChoice};
+ghost use Rattle.analysis.specs.Response.{timeElsewhere, lengthOne, timeItself, responseTime, passes};
+ghost use Rattle.sheet.specs.Layout.{recordAt};
+ghost use Rattle.analysis.specs.Equations.{stageTwo};
+ghost use Rattle.analysis.specs.Search.{leastWithin};
+ghost use Rattle.analysis.specs.Answers.{outcomeOf, entryOf, noEntry, ownTasks, leastInterval};
+use crate::Demand;
+use crate::Entry;
+use crate::Outcome;
+use crate::search;
+use crate::workload;
+use sheet::Record;
+use sheet::Table;
+
+// The time of the record at a place when faults strike other tasks only, or 0.
+fn elsewhere(table: Table, interval: u16, choice: [u8; 8], place: usize) -> u64
+    requires { ⌜ (tableRefusal table ≡ 0) × (1 ≤ interval) × (place < table .count) ⌝ }
+    ensures { λ r. ⌜ (r ≡ timeElsewhere (tasksOf table interval choice) place) × (r < 65536) ⌝ }
+{
+    let records = table.records;
+    let task = records[place];
+    let sought = Demand {
+        base: workload::wide(task.cost),
+        level: task.priority,
+        omitted: place,
+        backup: workload::largest(table, choice, place, task.priority),
+        paid: 0,
+    };
+    search::climb(table, interval, sought, 1, workload::wide(task.deadline))
+}
+
+// L1, the length of stage one, or 0.
+fn length_one(table: Table, interval: u16, choice: [u8; 8], place: usize) -> u64
+    requires { ⌜ (tableRefusal table ≡ 0) × (1 ≤ interval) × (place < table .count) ⌝ }
+    ensures { λ r. ⌜ (r ≡ lengthOne (tasksOf table interval choice) place) × (r < 65536) ⌝ }
+{
+    let records = table.records;
+    let task = records[place];
+    let level = choice[place];
+    let backup = workload::largest(table, choice, 8, level);
+    let sought = Demand {
+        base: workload::wide(task.backup),
+        level,
+        omitted: place,
+        backup,
+        paid: workload::wide(backup),
+    };
+    search::climb(table, interval, sought, 1, workload::wide(task.deadline))
+}
+
+// The time of stage two, from the length of stage one on, or 0.
+fn stage_two(table: Table, interval: u16, choice: [u8; 8], place: usize, first: u64) -> u64
+    requires { ⌜ (tableRefusal table ≡ 0) × (1 ≤ interval) × (place < table .count) × (1 ≤ first) × (first < 65536) ⌝ }
+    ensures { λ r. ⌜ (r ≡ leastWithin (stageTwo (tasksOf table interval choice) place first) first (recordAt (table .records) place .deadline)) × (r < 65536) ⌝ }
+{
+    let records = table.records;
+    let task = records[place];
+    let level = task.priority;
+    let backup = workload::largest(table, choice, 8, level);
+    let unpaid = Demand {
+        base: first + workload::wide(task.cost),
+        level,
+        omitted: place,
+        backup,
+        paid: 0,
+    };
+    let sought = Demand {
+        base: unpaid.base,
+        level,
+        omitted: place,
+        backup,
+        paid: workload::load(table, interval, unpaid, first),
+    };
+    search::climb(
+        table,
+        interval,
+        sought,
+        first,
+        workload::wide(task.deadline),
+    )
+}
+
+// The time of the record at a place when the first fault strikes it, or 0.
+fn itself(table: Table, interval: u16, choice: [u8; 8], place: usize) -> u64
+    requires { ⌜ (tableRefusal table ≡ 0) × (1 ≤ interval) × (place < table .count) ⌝ }
+    ensures { λ r. ⌜ (r ≡ timeItself (tasksOf table interval choice) place) × (r < 65536) ⌝ }
+{
+    let first = length_one(table, interval, choice, place);
+    if first == 0 {
+        return 0;
+    }
+    stage_two(table, interval, choice, place, first)
+}
+
+// The response time of the record at a place, or 0 where it is late.
+fn response(table: Table, interval: u16, choice: [u8; 8], place: usize) -> u16
+    requires { ⌜ (tableRefusal table ≡ 0) × (1 ≤ interval) × (place < table .count) ⌝ }
+    ensures { λ r. ⌜ r ≡ responseTime (tasksOf table interval choice) place ⌝ }
+{
+    let first = elsewhere(table, interval, choice, place);
+    if first == 0 {
+        return 0;
+    }
+    let second = itself(table, interval, choice, place);
+    if second == 0 {
+        return 0;
+    }
+    if first < second {
+        second as u16
+    } else {
+        first as u16
+    }
+}
+
+// A response time as an outcome.
+fn outcome(time: u16) -> Outcome
+    ensures { λ r. ⌜ r ≡ outcomeOf time ⌝ }
+{
+    if time == 0 {
+        return Outcome::Late;
+    }
+    Outcome::OnTime(time)
+}
+
+fn no_entry() -> Entry
+    ensures { λ r. ⌜ r ≡ noEntry ⌝ }
+{
+    Entry {
+        deadline: 0,
+        outcome: Outcome::OnTime(0),
+    }
+}
+
+pub fn no_entries() -> [Entry; 8]
+    ensures { λ r. ⌜ r ≡ replicate 8 noEntry ⌝ }
+{
+    [no_entry(); 8]
+}
+
+// The sheet's own fault priorities.
+pub fn own_choice(records: [Record; 8]) -> [u8; 8]
+    ensures { λ r. ⌜ r ≡ ownChoice records ⌝ }
+{
+    let mut choice = [0u8; 8];
+    let mut place: usize = 0;
+    while place < 8 {
+        choice[place] = records[place].fault_priority;
+        place += 1;
+    }
+    choice
+}
+
+// The entry of the record at a place.
+fn entry(table: Table, choice: [u8; 8], place: usize) -> Entry
+    requires { ⌜ (tableRefusal table ≡ 0) × (place < table .count) ⌝ }
+    ensures { λ r. ⌜ r ≡ entryOf (tasksOf table (table .interval) choice) place ⌝ }
+{
+    let records = table.records;
+    let task = records[place];
+    let outcome = outcome(response(table, table.interval, choice, place));
+    Entry {
+        deadline: task.deadline,
+        outcome,
+    }
+}
+
+// The entries of a good table.
+pub fn entries(table: Table) -> [Entry; 8]
+    requires { ⌜ tableRefusal table ≡ 0 ⌝ }
+    ensures { λ r. ⌜ r ≡ filledBelow (entryOf (ownTasks table)) (table .count) (replicate 8 noEntry) ⌝ }
+{
+    let count = table.count as usize;
+    let records = table.records;
+    let choice = own_choice(records);
+    let mut entries = [no_entry(); 8];
+    let mut place: usize = 0;
+    while place < count {
+        entries[place] = entry(table, choice, place);
+        place += 1;
+    }
+    entries
+}
+
+// Whether no record of a good table is late.
+pub fn passes(table: Table, interval: u16, choice: [u8; 8]) -> bool
+    requires { ⌜ (tableRefusal table ≡ 0) × (1 ≤ interval) ⌝ }
+    ensures { λ r. ⌜ r ≡ passes (tasksOf table interval choice) ⌝ }
+{
+    let count = table.count as usize;
+    let mut place: usize = 0;
+    while place < count {
+        if response(table, interval, choice, place) == 0 {
+            return false;
+        }
+        place += 1;
+    }
+    true
+}
+
+// The least interval at which a good table passes, or 0.
+pub fn least(table: Table) -> u16
+    requires { ⌜ tableRefusal table ≡ 0 ⌝ }
+    ensures { λ r. ⌜ r ≡ leastInterval table ⌝ }
+{
+    let records = table.records;
+    let choice = own_choice(records);
+    let mut interval: u16 = 1;
+    loop {
+        if passes(table, interval, choice) {
+            return interval;
+        }
+        if interval == 65535 {
+            return 0;
+        }
+        interval += 1;
+    }
+}

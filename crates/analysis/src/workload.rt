@@ -1,0 +1,109 @@
+// Rounding up, the largest backup at or above a level, and the load of a length: what the three equations are made of.
+ghost use mathlib.Core.Path.{_≡_};
+ghost use Prim.Native.Nat.{_≤_, _<_, max};
+ghost use mathlib.Core.List.{[]};
+ghost use Rattle.sheet.specs.Rules.{tableRefusal};
+ghost use Rattle.analysis.specs.Rounding.{up};
+ghost use Rattle.analysis.specs.Tasks.{tasksOf};
+ghost use Rattle.analysis.specs.Backups.{others, largestBackup, backupOf};
+ghost use Rattle.analysis.specs.Demand.{runOf, loadOf, demandOf};
+use crate::Demand;
+use sheet::Record;
+use sheet::Table;
+
+// A number of 16 bits as a wider one, which is known to be below 65,536.
+pub fn wide(x: u16) -> u64
+    ensures { λ r. ⌜ (r ≡ x) × (r < 65536) ⌝ }
+{
+    x as u64
+}
+
+// a divided by b, rounded up.
+pub fn up(a: u64, b: u64) -> u64
+    requires { ⌜ (a < 65536) × (1 ≤ b) × (b < 65536) ⌝ }
+    ensures { λ r. ⌜ (r ≡ up a b) × (r < 65536) ⌝ }
+{
+    (a + (b - 1)) / b
+}
+
+// A record's backup if it is meant and runs at or above the level, else 0.
+fn backup_at(task: Record, is_meant: bool, fault: u8, level: u8) -> u16
+    ensures { λ r. ⌜ r ≡ backupOf task «is_meant» fault level ⌝ }
+{
+    if is_meant {
+        if level <= fault {
+            return task.backup;
+        }
+    }
+    0
+}
+
+// The larger of two numbers.
+pub fn larger(a: u16, b: u16) -> u16
+    ensures { λ r. ⌜ r ≡ max a b ⌝ }
+{
+    if a < b { b } else { a }
+}
+
+// The largest backup at or above the level, the record at one place left out.
+pub fn largest(table: Table, choice: [u8; 8], omitted: usize, level: u8) -> u16
+    requires { ⌜ table .count ≤ 8 ⌝ }
+    ensures { λ r. ⌜ r ≡ largestBackup (tasksOf table 0 choice) (others omitted) level ⌝ }
+{
+    let count = table.count as usize;
+    let records = table.records;
+    let mut most: u16 = 0;
+    let mut place: usize = 0;
+    while place < count {
+        most = larger(
+            most,
+            backup_at(records[place], place != omitted, choice[place], level),
+        );
+        place += 1;
+    }
+    most
+}
+
+// The time that a record runs in a length, if it is meant and its priority is above the level, else 0.
+fn run_of(task: Record, is_meant: bool, level: u8, length: u64) -> u64
+    requires { ⌜ (length < 65536) × (1 ≤ task .period) ⌝ }
+    ensures { λ r. ⌜ (r ≡ runOf task «is_meant» level length) × (r ≤ 4294836225) ⌝ }
+{
+    if is_meant {
+        if level < task.priority {
+            return up(length, wide(task.period)) * wide(task.cost);
+        }
+    }
+    0
+}
+
+// What the records above the demand's level, and the faults, take of a length.
+pub fn load(table: Table, interval: u16, demand: Demand, length: u64) -> u64
+    requires { ⌜ (tableRefusal table ≡ 0) × (1 ≤ interval) × (length < 65536) ⌝ }
+    ensures { λ r. ⌜ (r ≡ loadOf (tasksOf table interval []) demand length) × (r ≤ 38653526025) ⌝ }
+{
+    let count = table.count as usize;
+    let records = table.records;
+    let omitted = demand.omitted;
+    let level = demand.level;
+    let mut total = up(length, wide(interval)) * wide(demand.backup);
+    let mut place: usize = 0;
+    while place < count {
+        total += run_of(records[place], place != omitted, level, length);
+        place += 1;
+    }
+    total
+}
+
+// What a demand asks of a length.
+pub fn asked(table: Table, interval: u16, demand: Demand, length: u64) -> u64
+    requires { ⌜ (tableRefusal table ≡ 0) × (1 ≤ interval) × (length < 65536) × (demand .base < 131072) ⌝ }
+    ensures { λ r. ⌜ r ≡ demandOf (tasksOf table interval []) demand length ⌝ }
+{
+    let total = demand.base + load(table, interval, demand, length);
+    let paid = demand.paid;
+    if total < paid {
+        return 0;
+    }
+    total - paid
+}
