@@ -4,6 +4,7 @@ use mathlib.Core.Path.{_≡_, refl, sym, ap, ap₂, _∙_}
 use mathlib.Core.Bool.{Bool, true, false, _||_}
 use mathlib.Core.Logic.{_⊎_, ⊎-elim}
 use native.Mathlib.Nat.{eq-or-lt-of-le, le-of-suc-le-suc, not-suc-le-zero}
+use native.Mathlib.Omega.{arith}
 use native.Mathlib.Numerals.{add-one}
 use borrow.Author.Tests.{eq-eqb, ne-eqb}
 use lib.Dec.{eqb}
@@ -58,3 +59,9 @@ some-found test k (suc n) below here = go (some-found test k n) (eq-or-lt-of-le 
     go earlier side =
         ⊎-elim (λ e. ap (λ (b : Bool). someBelow test n || b) (ap test (sym e) ∙ here) ∙ last (someBelow test n))
         (λ lt. ap (λ (b : Bool). b || test n) (earlier lt here)) side
+
+-- a test that holds at no place below n
+pub none-below : (test : ℕ → Bool) (n : ℕ) → ((k : ℕ) → k < n → test k ≡ false) → someBelow test n ≡ false
+unfolding someBelow
+none-below test zero each = refl
+none-below test (suc n) each = ap₂ _||_ (none-below test n (λ k h. each k (omega arith))) (each n (omega arith))

@@ -43,11 +43,11 @@ fn length_one(table: Table, interval: u16, choice: [u8; 8], place: usize) -> u64
 {
     let records = table.records;
     let task = records[place];
-    let level = choice[place];
-    let backup = workload::largest(table, choice, 8, level);
+    let fault = choice[place];
+    let backup = workload::largest(table, choice, 8, fault);
     let sought = Demand {
         base: workload::wide(task.backup),
-        level,
+        level: fault,
         omitted: place,
         backup,
         paid: workload::wide(backup),

@@ -13,7 +13,7 @@ use Rattle.sheet.specs.Rules.{sheetRefusal, tableRefusal}
 use Rattle.sheet.specs.Answers.{readAnswer, writeAnswer, writeLeaves, placeRefusal, Part, Excerpted}
 
 -- two values that are both a third are equal
-both : {A : Type 0} {a b c : A} → a ≡ c → b ≡ c → a ≡ b
+pub both : {A : Type 0} {a b c : A} → a ≡ c → b ≡ c → a ≡ b
 both p q = p ∙ sym q
 
 pub judge-unique : (sheet : List ℕ) (a b : ℕ) → a ≡ sheetRefusal sheet → b ≡ sheetRefusal sheet → a ≡ b

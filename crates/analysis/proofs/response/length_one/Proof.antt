@@ -15,8 +15,8 @@ array-copy-out-task : tie.Need-array-copy-out-task
 array-copy-out-task c =
     omega (arith, good-table (c .before .args .table) (c .before .pre .0) .count .1)
 
-array-read-level : tie.Need-array-read-level
-array-read-level c =
+array-read-fault : tie.Need-array-read-fault
+array-read-fault c =
     omega (arith, good-table (c .before .before .args .table) (c .before .before .pre .0) .count .1)
 
 largest-requires : tie.Need-largest-requires
@@ -51,7 +51,7 @@ length-one-spec =
     (tie.spec
     mul-task
     array-copy-out-task
-    array-read-level
+    array-read-fault
     largest-requires
     wide-requires
     wide-requires-2

@@ -1,0 +1,146 @@
+-- The demands on times in the request's words, about the definitions: the least times, the response, late, the verdict, the least interval.
+-- That rounding up gives the least k with a ≤ k × b is `up-enough` and `up-least` of Rounding.antt. Assumes nothing.
+use Prim.Native.Nat.{ℕ, suc, _≤_, _<_, max}
+use mathlib.Core.Path.{_≡_, sym, ap, _∙_, subst}
+use mathlib.Core.Bool.{Bool, true, false, not, true≢false}
+use mathlib.Core.Logic.{_↔_}
+use native.Mathlib.Decide.{ℕ-discrete}
+use native.Mathlib.Omega.{arith}
+use borrow.Author.Tests.{eq-eqb, ne-eqb, not-true}
+use Rattle.sheet.specs.declared.Table.{Table}
+use Rattle.sheet.specs.Places.{someBelow}
+use Rattle.analysis.specs.Tasks.{Tasks, tasksOf, ownChoice}
+use Rattle.analysis.specs.Equations.{struckElsewhere, stageOne, stageTwo}
+use Rattle.analysis.specs.Search.{leastWithin}
+use Rattle.analysis.specs.Response.{timeElsewhere, lengthOne, timeItself, responseTime, passes}
+use Rattle.analysis.specs.Answers.{leastInterval}
+use Rattle.analysis.proofs.Climbing.{Fails, Says, first-says, first-found, first-none, Least, least-says, least-found, least-none}
+use Rattle.analysis.proofs.Verdicts.{late, itself-none, itself-some, late-elsewhere, late-itself, on-time, some-found, none-below}
+
+-- L is at least what is asked of it, from the start and within the limit, and every smaller number from the start fails that
+pub record IsLeast (asked : ℕ → ℕ) (start limit L : ℕ) : Type 0 where
+  pub low : start ≤ L
+  pub high : L ≤ limit
+  pub enough : asked L ≤ L
+  pub smaller : (k : ℕ) → start ≤ k → k < L → k < asked k
+
+-- every number from the start within the limit fails what is asked of it
+abbrev pub NoValue : (ℕ → ℕ) → ℕ → ℕ → Type 0
+NoValue asked start limit = (k : ℕ) → start ≤ k → k ≤ limit → k < asked k
+
+module _ (asked : ℕ → ℕ) (start limit : ℕ) (some : 1 ≤ start) where
+  least-is : (L : ℕ) → 1 ≤ L → (leastWithin asked start limit ≡ L) ↔ IsLeast asked start limit L
+  least-is L long = (λ e. go (least-says asked start limit) e, λ w. least-found asked start limit L (w .low) (w .high) (w .smaller) (w .enough))
+    where
+      go : {r : ℕ} → Least asked start limit r → r ≡ L → IsLeast asked start limit L
+      go (Least.none short) e = absurd (omega arith)
+      go (Least.least low high fits short) e = subst (IsLeast asked start limit) e (record { low = low; high = high; enough = fits; smaller = short })
+
+  none-is : (leastWithin asked start limit ≡ 0) ↔ NoValue asked start limit
+  none-is = (λ e. go (least-says asked start limit) e, λ fails. least-none asked start limit (suc limit) (omega arith) (λ k low high. fails k low (omega arith)))
+    where
+      go : {r : ℕ} → Least asked start limit r → r ≡ 0 → NoValue asked start limit
+      go (Least.none short) e = λ k low high. short k low (omega arith)
+      go (Least.least low high fits short) e = absurd (omega arith)
+
+module _ (s : Tasks) (i : ℕ) where
+  -- the time struck elsewhere is the least that its equation allows within the deadline
+  pub elsewhere-least : (L : ℕ) → 1 ≤ L → (timeElsewhere s i ≡ L) ↔ IsLeast (struckElsewhere s i) 1 (s .at i .deadline) L
+  unfolding timeElsewhere
+  elsewhere-least L long = least-is (struckElsewhere s i) 1 (s .at i .deadline) (omega arith) L long
+
+  -- L1 is the least that stage one's equation allows within the deadline
+  pub one-least : (L : ℕ) → 1 ≤ L → (lengthOne s i ≡ L) ↔ IsLeast (stageOne s i) 1 (s .at i .deadline) L
+  unfolding lengthOne
+  one-least L long = least-is (stageOne s i) 1 (s .at i .deadline) (omega arith) L long
+
+  -- the time struck itself is the least from L1 on that stage two's equation allows within the deadline
+  pub itself-least : 1 ≤ lengthOne s i → (L : ℕ) → 1 ≤ L → (timeItself s i ≡ L) ↔ IsLeast (stageTwo s i (lengthOne s i)) (lengthOne s i) (s .at i .deadline) L
+  itself-least some L long =
+      let two = least-is (stageTwo s i (lengthOne s i)) (lengthOne s i) (s .at i .deadline) some L long in
+      let same = itself-some s i (λ e. omega arith) in
+      (λ e. two .0 (same ∙ e), λ w. sym same ∙ two .1 w)
+
+  -- "The response time is the larger of the two times."
+  pub response-larger : 1 ≤ timeElsewhere s i → 1 ≤ timeItself s i → responseTime s i ≡ max (timeElsewhere s i) (timeItself s i)
+  response-larger first second = sym (on-time s i (λ e. omega arith) (λ e. omega arith))
+
+  -- "A task is late if either time, or L1, has no value within D.": the three ways to be late
+  pub data Missing : Type 0 where
+    no-time-elsewhere : NoValue (struckElsewhere s i) 1 (s .at i .deadline) → Missing
+    no-length-one : NoValue (stageOne s i) 1 (s .at i .deadline) → Missing
+    no-time-itself : 1 ≤ lengthOne s i → NoValue (stageTwo s i (lengthOne s i)) (lengthOne s i) (s .at i .deadline) → Missing
+
+  elsewhere-none : (timeElsewhere s i ≡ 0) ↔ NoValue (struckElsewhere s i) 1 (s .at i .deadline)
+  unfolding timeElsewhere
+  elsewhere-none = none-is (struckElsewhere s i) 1 (s .at i .deadline) (omega arith)
+
+  one-none : (lengthOne s i ≡ 0) ↔ NoValue (stageOne s i) 1 (s .at i .deadline)
+  unfolding lengthOne
+  one-none = none-is (stageOne s i) 1 (s .at i .deadline) (omega arith)
+
+  two-none : 1 ≤ lengthOne s i → (timeItself s i ≡ 0) ↔ NoValue (stageTwo s i (lengthOne s i)) (lengthOne s i) (s .at i .deadline)
+  two-none some =
+      let two = none-is (stageTwo s i (lengthOne s i)) (lengthOne s i) (s .at i .deadline) some in
+      let same = itself-some s i (λ e. omega arith) in
+      (λ e. two .0 (same ∙ e), λ v. sym same ∙ two .1 v)
+
+  -- a task whose time struck itself is missing is late, whatever the other
+  itself-late : timeItself s i ≡ 0 → responseTime s i ≡ 0
+  itself-late e = go (ℕ-discrete (timeElsewhere s i) 0)
+    where
+      go : Dec (timeElsewhere s i ≡ 0) → responseTime s i ≡ 0
+      go (yes z) = sym (late-elsewhere s i z)
+      go (no z) = sym (late-itself s i z e)
+
+  pub late-exactly : (responseTime s i ≡ 0) ↔ Missing
+  late-exactly = (λ e. first (ℕ-discrete (timeElsewhere s i) 0) e, back)
+    where
+      third : (timeElsewhere s i ≡ 0 → ⊥) → (lengthOne s i ≡ 0 → ⊥) → Dec (timeItself s i ≡ 0) → responseTime s i ≡ 0 → Missing
+      third a b (yes z) e = no-time-itself (omega arith) (two-none (omega arith) .0 z)
+      third a b (no z) e = absurd (let larger = on-time s i a z in omega arith)
+
+      second : (timeElsewhere s i ≡ 0 → ⊥) → Dec (lengthOne s i ≡ 0) → responseTime s i ≡ 0 → Missing
+      second a (yes z) e = no-length-one (one-none .0 z)
+      second a (no z) e = third a z (ℕ-discrete (timeItself s i) 0) e
+
+      first : Dec (timeElsewhere s i ≡ 0) → responseTime s i ≡ 0 → Missing
+      first (yes z) e = no-time-elsewhere (elsewhere-none .0 z)
+      first (no z) e = second z (ℕ-discrete (lengthOne s i) 0) e
+
+      back : Missing → responseTime s i ≡ 0
+      back (no-time-elsewhere v) = sym (late-elsewhere s i (elsewhere-none .1 v))
+      back (no-length-one v) = itself-late (sym (itself-none s i (one-none .1 v)))
+      back (no-time-itself some v) = itself-late (two-none some .1 v)
+
+-- "A sheet passes if no task is late."
+pub passes-exactly : (s : Tasks) → (passes s ≡ true) ↔ ((i : ℕ) → i < s .count → responseTime s i ≡ 0 → ⊥)
+unfolding passes
+passes-exactly s = (
+  λ e i below z. true≢false (sym (some-found (late s) i (s .count) below (eq-eqb (responseTime s i) 0 z)) ∙ not-true (someBelow (late s) (s .count)) e),
+  λ each. ap not (none-below (late s) (s .count) (λ i below. ne-eqb (responseTime s i) 0 (each i below))),
+)
+
+-- whether a table passes at an interval, with its own fault priorities
+abbrev pub passesAt : Table → ℕ → Bool
+passesAt t interval = passes (tasksOf t interval (ownChoice (t .records)))
+
+-- "the smallest E from 1 to 65,535 at which the sheet passes": the least interval passes, and none below it does
+pub interval-least : (t : Table) (interval : ℕ) → 1 ≤ interval
+    → (leastInterval t ≡ interval) ↔ ((interval ≤ 65535) × (passesAt t interval ≡ true) × ((e : ℕ) → 1 ≤ e → e < interval → passesAt t e ≡ false))
+unfolding leastInterval
+interval-least t interval some =
+    (λ e. go (first-says (passesAt t) 65535 1) e, λ w. first-found (passesAt t) 65535 1 interval some (omega arith) (w .2) (w .1))
+  where
+    go : {r : ℕ} → Says (passesAt t) 1 65535 r → r ≡ interval → (interval ≤ 65535) × (passesAt t interval ≡ true) × ((e : ℕ) → 1 ≤ e → e < interval → passesAt t e ≡ false)
+    go (Says.none fails) e = absurd (omega arith)
+    go (Says.found low high fails holds) e = (omega arith, ap (passesAt t) (sym e) ∙ holds, subst (Fails (passesAt t) 1) e fails)
+
+-- "none" exactly if no interval from 1 to 65,535 passes
+pub interval-none : (t : Table) → (leastInterval t ≡ 0) ↔ ((e : ℕ) → 1 ≤ e → e ≤ 65535 → passesAt t e ≡ false)
+unfolding leastInterval
+interval-none t = (λ e. go (first-says (passesAt t) 65535 1) e, λ fails. first-none (passesAt t) 65535 1 (λ k low high. fails k low (omega arith)))
+  where
+    go : {r : ℕ} → Says (passesAt t) 1 65535 r → r ≡ 0 → (e : ℕ) → 1 ≤ e → e ≤ 65535 → passesAt t e ≡ false
+    go (Says.none fails) e k low high = fails k low (omega arith)
+    go (Says.found first last fails holds) e k low high = absurd (omega arith)
