@@ -46,7 +46,7 @@ filled-agree zero l same = refl
 filled-agree (suc n) l same = ap₂ (λ (r : List _) (v : _). set r n v) (filled-agree n l (less n same)) (same n (omega arith))
 
 -- a filled list holds each place's value below n
-filled-at : {A : Type 0} (f : ℕ → A) (n : ℕ) (l : List A) (d : A) → n ≤ length l → (k : ℕ) → k < n → getD (filledBelow f n l) k d ≡ f k
+pub filled-at : {A : Type 0} (f : ℕ → A) (n : ℕ) (l : List A) (d : A) → n ≤ length l → (k : ℕ) → k < n → getD (filledBelow f n l) k d ≡ f k
 unfolding filledBelow
 filled-at f zero l d fits k h = absurd (not-suc-le-zero h)
 filled-at f (suc n) l d fits k h = go (filled-at f n l d (omega arith) k) (eq-or-lt-of-le (le-of-suc-le-suc h))

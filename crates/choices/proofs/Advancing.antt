@@ -1,0 +1,102 @@
+-- From one choice to the next that passes: what stepping through the choices keeps, over any good table. Assumes nothing.
+use Prim.Native.Nat.{ℕ, _≤_, _<_}
+use mathlib.Core.Path.{_≡_, refl, sym, ap, _∙_, subst}
+use mathlib.Core.Bool.{Bool, true, false, cond, _||_}
+use mathlib.Core.List.{List, [], _∷_}
+use native.Mathlib.Nat.{suc-ne-zero}
+use native.Mathlib.Omega.{arith}
+use lib.ListN.{length, getD, replicate}
+use Rattle.sheet.specs.declared.Table.{Table}
+use Rattle.sheet.specs.Layout.{recordAt}
+use Rattle.sheet.specs.Rules.{tableRefusal}
+use Rattle.sheet.proofs.Turns.{none-of, length-filled}
+use Rattle.sheet.proofs.Cases.{good-table, good-at}
+use Rattle.sheet.proofs.Agree.{filled-at}
+use Rattle.analysis.specs.Tasks.{tasksOf}
+use Rattle.analysis.specs.Response.{passes}
+use Rattle.analysis.specs.Answers.{choiceAnswer, passingOf as verdictOf}
+use Rattle.choices.specs.Choices.{levelsOf, choicesOf, sift, passingOf}
+use Rattle.choices.specs.Order.{allZero, allAllowed, afterOf}
+use Rattle.choices.specs.Answers.{walkRefusal}
+use Rattle.choices.specs.Stepping.{nextOf}
+use Rattle.choices.proofs.Sifted.{sift-keeps, sift-drops, sift-sift-commute}
+use Rattle.choices.proofs.Onward.{onward, after-next, next-allowed}
+
+-- whether a table passes under a choice
+abbrev pub passesWith : Table → List ℕ → Bool
+passesWith t choice = passes (tasksOf t (t .interval) choice)
+
+-- what a start that is not refused is known for
+pub good-start : (t : Table) (start : List ℕ) → walkRefusal t start ≡ 0 → (tableRefusal t ≡ 0) × ((allZero start || allAllowed (levelsOf t) start) ≡ true)
+unfolding walkRefusal
+good-start t start e =
+    let both = none-of (tableRefusal t) (cond (allZero start || allAllowed (levelsOf t) start) 0 13) e in
+    (both .0, kept (allZero start || allAllowed (levelsOf t) start) (both .1))
+  where
+    kept : (b : Bool) → _≡_ {A = ℕ} (cond b 0 13) 0 → b ≡ true
+    kept true z = refl
+    kept false z = absurd (suc-ne-zero 12 z)
+
+pub length-levels : (t : Table) → length (levelsOf t) ≡ 8
+unfolding levelsOf
+length-levels t = length-filled _ (t .count) (replicate 8 0)
+
+-- the choice right after is allowed too
+pub still-allowed : (t : Table) (choice : List ℕ) → (allZero choice || allAllowed (levelsOf t) choice) ≡ true
+    → (allZero (nextOf (levelsOf t) choice .choice) || allAllowed (levelsOf t) (nextOf (levelsOf t) choice .choice)) ≡ true
+still-allowed t choice start = either (allZero (nextOf (levelsOf t) choice .choice)) (next-allowed (levelsOf t) choice start)
+  where
+    either : (a : Bool) {b : Bool} → b ≡ true → (a || b) ≡ true
+    either true e = refl
+    either false e = e
+
+module _ (t : Table) (good : tableRefusal t ≡ 0) where
+  -- a good table has a first record, with a priority of 1 at least
+  pub first-level : 1 ≤ getD (levelsOf t) 0 0
+  unfolding levelsOf
+  first-level =
+      let known = good-table t good in
+      let some : 0 < t .count = omega (arith, known .count .0) in
+      subst (λ (n : ℕ). 1 ≤ n) (sym (filled-at (λ place. recordAt (t .records) place .priority) (t .count) (replicate 8 0) 0 (known .count .1) 0 some))
+      (good-at (t .count) (recordAt (t .records)) (known .records) 0 some .priority .0)
+
+  module _ (choice : List ℕ) (eight : length choice ≡ 8) (start : (allZero choice || allAllowed (levelsOf t) choice) ≡ true) where
+    -- what comes after a choice is the next one, and what comes after that
+    stepped : afterOf choice (choicesOf (levelsOf t)) ≡ onward (levelsOf t) (nextOf (levelsOf t) choice)
+    stepped = after-next (levelsOf t) choice first-level (eight ∙ sym (length-levels t)) start
+
+    -- where there is no next choice, none that passes is left
+    pub none-left : nextOf (levelsOf t) choice .«is_there» ≡ false → afterOf choice (passingOf t) ≡ []
+    unfolding passingOf sift
+    none-left e = sift-sift-commute choice (passesWith t) (choicesOf (levelsOf t)) ∙ ap (sift (passesWith t)) (stepped ∙ ap (λ (b : Bool). cond b (nextOf (levelsOf t) choice .choice ∷ afterOf (nextOf (levelsOf t) choice .choice) (choicesOf (levelsOf t))) []) e)
+
+    module _ (there : nextOf (levelsOf t) choice .«is_there» ≡ true) where
+      -- the next choice
+      abbrev later : List ℕ
+      later = nextOf (levelsOf t) choice .choice
+
+      onto : afterOf choice (choicesOf (levelsOf t)) ≡ later ∷ afterOf later (choicesOf (levelsOf t))
+      onto = stepped ∙ ap (λ (b : Bool). cond b (later ∷ afterOf later (choicesOf (levelsOf t))) []) there
+
+      -- fewer choices come after it
+      pub fewer : length (afterOf later (choicesOf (levelsOf t))) < length (afterOf choice (choicesOf (levelsOf t)))
+      fewer = omega (arith, ap length onto)
+
+      -- if it passes, it is the first of those that do
+      pub passing-next : passesWith t later ≡ true → afterOf choice (passingOf t) ≡ later ∷ afterOf later (passingOf t)
+      unfolding passingOf
+      passing-next yes-it =
+          sift-sift-commute choice (passesWith t) (choicesOf (levelsOf t)) ∙ ap (sift (passesWith t)) onto ∙ sift-keeps (passesWith t) later _ yes-it
+          ∙ ap (λ (l : List (List ℕ)). later ∷ l) (sym (sift-sift-commute later (passesWith t) (choicesOf (levelsOf t))))
+
+      -- if not, those that do come after it too
+      pub failing-next : passesWith t later ≡ false → afterOf choice (passingOf t) ≡ afterOf later (passingOf t)
+      unfolding passingOf
+      failing-next not-it =
+          sift-sift-commute choice (passesWith t) (choicesOf (levelsOf t)) ∙ ap (sift (passesWith t)) onto ∙ sift-drops (passesWith t) later _ not-it
+          ∙ sym (sift-sift-commute later (passesWith t) (choicesOf (levelsOf t)))
+
+  -- the verdict on a good table under a choice
+  pub verdict-passes : (choice : List ℕ) → choiceAnswer t choice .passes ≡ passesWith t choice
+  unfolding choiceAnswer verdictOf
+  verdict-passes choice = simp good

@@ -1,0 +1,163 @@
+-- Going through the list of passing choices one by one: what comes after each, and that each can be gone on from. Assumes nothing.
+use Prim.Native.Nat.{ℕ, zero, suc, _+_, _*_, _≤_, _<_, zero-le}
+use mathlib.Core.Path.{_≡_, refl, sym, ap, _∙_, subst}
+use mathlib.Core.Bool.{Bool, true, false, cond, _||_, true≢false}
+use mathlib.Core.List.{List, [], _∷_, List·Memᴰ as In, List·Memᴰ·head as here}
+use native.Mathlib.Numerals.{add-one}
+use native.Mathlib.Omega.{arith}
+use borrow.Author.Tests.{lt-ltb, le-ltb}
+use lib.ListN.{length, getD, set, drop, replicate, length-drop}
+use lib.Seq.{drop-cons}
+use Rattle.sheet.specs.declared.Table.{Table}
+use Rattle.sheet.specs.Places.{filledBelow}
+use Rattle.sheet.specs.Layout.{recordAt}
+use Rattle.sheet.specs.Rules.{tableRefusal}
+use Rattle.sheet.proofs.Turns.{first-of, next-of}
+use Rattle.sheet.proofs.Cases.{good-table, good-at}
+use Rattle.choices.specs.Choices.{levelsOf, choicesOf, sift, passingOf}
+use Rattle.choices.specs.Order.{before, isAllowed, allAllowed, allZero, afterOf}
+use Rattle.choices.specs.Answers.{walkRefusal, listRefusal}
+use Rattle.choices.specs.declared.Found.{Found}
+use Rattle.choices.specs.Stepping.{small, foundIn}
+use Rattle.choices.proofs.Sifted.{sift-drops, sift-all}
+use Rattle.choices.proofs.Allowed.{both-true, allowed-within, allowed-length}
+use Rattle.choices.proofs.Onward.{zero-before-sift}
+use Rattle.choices.proofs.Members.{sift-members, choices-sound}
+use Rattle.choices.proofs.Ordered.{before-irreflexive, before-asymmetric, before-transitive, Ascending, none, more, sift-ascending, choices-ascending}
+use Rattle.choices.proofs.Advancing.{passesWith, length-levels, first-level}
+
+-- in an ascending list, what comes after the first one found after a start is what was found after it
+pub after-first : (w c : List ℕ) (rest : List (List ℕ)) {l : List (List ℕ)} → Ascending l → afterOf w l ≡ c ∷ rest → afterOf c l ≡ rest
+unfolding afterOf sift
+after-first w c rest none e = absurd (omega (arith, ap length e))
+after-first w c rest (more {c = d} {l = l} later up) e = go (before w d) refl (after-first w c rest up) e
+  where
+    go : (b : Bool) → before w d ≡ b → (sift (before w) l ≡ c ∷ rest → sift (before c) l ≡ rest) → cond b (d ∷ sift (before w) l) (sift (before w) l) ≡ c ∷ rest → sift (before c) (d ∷ l) ≡ rest
+    go true h earlier e =
+        let head : d ≡ c = cc in
+        let tail : sift (before w) l ≡ rest = cc in
+        ap (λ (x : List ℕ). sift (before x) (d ∷ l)) (sym head) ∙ sift-drops (before d) d l (before-irreflexive d) ∙ sift-all (before d) l later
+        ∙ sym (sift-all (before w) l (λ x m. before-transitive w d x h (later x m))) ∙ tail
+    go false h earlier e =
+        let member : In c l = sift-members (before w) l .0 (subst (In c) (sym e) (here refl)) .0 in
+        sift-drops (before c) d l (before-asymmetric d c (later c member)) ∙ earlier e
+
+pub passing-ascending : (t : Table) → Ascending (passingOf t)
+unfolding passingOf
+passing-ascending t = sift-ascending (passesWith t) (choices-ascending (levelsOf t))
+
+-- a passing choice is allowed
+pub passing-allowed : (t : Table) {c : List ℕ} → In c (passingOf t) → allAllowed (levelsOf t) c ≡ true
+unfolding passingOf
+passing-allowed t m = choices-sound (levelsOf t) (sift-members (passesWith t) (choicesOf (levelsOf t)) .0 m .0)
+
+-- no entry of an allowed choice is above its level
+entry-within : (ps c : List ℕ) → allAllowed ps c ≡ true → (k : ℕ) → getD c k 0 ≤ getD ps k 0
+unfolding allAllowed
+entry-within [] [] e k = omega arith
+entry-within [] (q ∷ qs) e k = absurd (true≢false (sym e))
+entry-within (p ∷ ps) [] e k = absurd (true≢false (sym e))
+entry-within (p ∷ ps) (q ∷ qs) e zero = allowed-within p q (both-true (isAllowed p q) (allAllowed ps qs) e .0) .1
+entry-within (p ∷ ps) (q ∷ qs) e (suc k) = entry-within ps qs (both-true (isAllowed p q) (allAllowed ps qs) e .1) k
+
+-- a store of what is within a bound leaves a list within it
+set-within : (m : ℕ) (l : List ℕ) (i v : ℕ) → v ≤ m → ((k : ℕ) → getD l k 0 ≤ m) → (k : ℕ) → getD (set l i v) k 0 ≤ m
+set-within m [] i v h each k = each k
+set-within m (x ∷ l) zero v h each zero = h
+set-within m (x ∷ l) zero v h each (suc k) = each (suc k)
+set-within m (x ∷ l) (suc i) v h each zero = each 0
+set-within m (x ∷ l) (suc i) v h each (suc k) = set-within m l i v h (λ j. each (suc j)) k
+
+filled-within : (m : ℕ) (f : ℕ → ℕ) (room : List ℕ) → ((k : ℕ) → getD room k 0 ≤ m) → (n : ℕ) → ((k : ℕ) → k < n → f k ≤ m) → (k : ℕ) → getD (filledBelow f n room) k 0 ≤ m
+unfolding filledBelow
+filled-within m f room empty zero each = empty
+filled-within m f room empty (suc n) each = set-within m (filledBelow f n room) n (f n) (each n (omega arith)) (filled-within m f room empty n (λ k h. each k (omega arith)))
+
+zeros-within : (m n k : ℕ) → getD (replicate n 0) k 0 ≤ m
+zeros-within m zero k = zero-le
+zeros-within m (suc n) zero = zero-le
+zeros-within m (suc n) (suc k) = zeros-within m n k
+
+module _ (t : Table) (good : tableRefusal t ≡ 0) where
+  level-within : (k : ℕ) → getD (levelsOf t) k 0 ≤ 8
+  unfolding levelsOf
+  level-within =
+      let known = good-table t good in
+      filled-within 8 (λ place. recordAt (t .records) place .priority) (replicate 8 0) (zeros-within 8 8) (t .count)
+      (λ k h. omega (arith, good-at (t .count) (recordAt (t .records)) (known .records) k h .priority .1, known .count .1))
+
+  -- before the first choice stands every passing one
+  pub from-start : afterOf (replicate 8 0) (passingOf t) ≡ passingOf t
+  unfolding passingOf allZero
+  from-start = zero-before-sift (levelsOf t) (replicate 8 0) (passesWith t) (first-level t good) refl (sym (length-levels t))
+
+  pub start-allowed : walkRefusal t (replicate 8 0) ≡ 0
+  unfolding walkRefusal allZero
+  start-allowed = next-of _ good
+
+  -- the first passing choice after another: it can be gone on from, its entries have room in four bits, and the rest comes after it
+  pub record Next (c : List ℕ) (rest : List (List ℕ)) : Type 0 where
+    pub going-on : walkRefusal t c ≡ 0
+    pub after : afterOf c (passingOf t) ≡ rest
+    pub eight : length c ≡ 8
+    pub narrow : small c
+
+  pub next-listed : (w c : List ℕ) (rest : List (List ℕ)) → afterOf w (passingOf t) ≡ c ∷ rest → Next c rest
+  unfolding walkRefusal small afterOf
+  next-listed w c rest e =
+      let member : In c (passingOf t) = sift-members (before w) (passingOf t) .0 (subst (In c) (sym e) (here refl)) .0 in
+      let allowed = passing-allowed t member in
+      record {
+        going-on = next-of _ good ∙ ap (λ (b : Bool). cond b 0 13) (ap (λ (b : Bool). allZero c || b) allowed ∙ or-true (allZero c));
+        after = after-first w c rest (passing-ascending t) e;
+        eight = allowed-length (levelsOf t) c allowed ∙ length-levels t;
+        narrow = λ k. omega (arith, entry-within (levelsOf t) c allowed k, level-within k);
+      }
+    where
+      or-true : (b : Bool) → (b || true) ≡ true
+      or-true true = refl
+      or-true false = refl
+
+  -- a turn of going through the list: the choice found after the first n is the one at place n
+  pub record Turn (n : ℕ) (c : List ℕ) : Type 0 where
+    pub below : n < length (passingOf t)
+    pub same : c ≡ getD (passingOf t) n []
+    pub after : afterOf c (passingOf t) ≡ drop (n + 1) (passingOf t)
+    pub going-on : walkRefusal t c ≡ 0
+    pub narrow : small c
+
+  pub turn-listed : (w c : List ℕ) (rest : List (List ℕ)) (n : ℕ) → afterOf w (passingOf t) ≡ drop n (passingOf t) → afterOf w (passingOf t) ≡ c ∷ rest → Turn n c
+  turn-listed w c rest n from found =
+      let next = next-listed w c rest found in
+      let some : length (drop n (passingOf t)) ≡ suc (length rest) = ap length (sym from ∙ found) in
+      let below : n < length (passingOf t) = omega (arith, length-drop n (passingOf t)) in
+      let cut = drop-cons (passingOf t) n [] below in
+      let head : c ≡ getD (passingOf t) n [] = cc in
+      let tail : rest ≡ drop (suc n) (passingOf t) = cc in
+      record { below = below; same = head; after = next .after ∙ tail ∙ ap (λ (k : ℕ). drop k (passingOf t)) (sym (add-one n)); going-on = next .going-on; narrow = next .narrow }
+
+-- what is found in a list is its first, and nothing only in an empty one
+pub found-there : (w : List ℕ) (l : List (List ℕ)) (f : Found) → f ≡ foundIn w l → f .«is_there» ≡ true → l ≡ f .choice ∷ drop 1 l
+unfolding foundIn
+found-there w [] f e h = absurd (true≢false (sym h ∙ ap (λ (g : Found). g .«is_there») e))
+found-there w (c ∷ l) f e h = ap (λ (x : List ℕ). x ∷ l) (sym (ap (λ (g : Found). g .choice) e))
+
+pub found-none : (w : List ℕ) (l : List (List ℕ)) (f : Found) → f ≡ foundIn w l → f .«is_there» ≡ false → l ≡ []
+unfolding foundIn
+found-none w [] f e h = refl
+found-none w (c ∷ l) f e h = absurd (true≢false (sym (ap (λ (g : Found). g .«is_there») e) ∙ h))
+
+-- the refusals of a list
+module _ (t : Table) (out : List ℕ) where
+  pub list-refused : (tableRefusal t ≡ 0 → ⊥) → listRefusal t out ≡ tableRefusal t
+  unfolding listRefusal
+  list-refused = first-of (tableRefusal t) _
+
+  module _ (good : tableRefusal t ≡ 0) where
+    pub list-short : length out < 4 * length (passingOf t) → listRefusal t out ≡ 11
+    unfolding listRefusal
+    list-short h = next-of _ good ∙ simp (lt-ltb (length out) (4 * length (passingOf t)) h)
+
+    pub list-fits : 4 * length (passingOf t) ≤ length out → listRefusal t out ≡ 0
+    unfolding listRefusal
+    list-fits h = next-of _ good ∙ simp (le-ltb (length out) (4 * length (passingOf t)) h)

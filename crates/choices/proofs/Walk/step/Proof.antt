@@ -1,0 +1,50 @@
+-- `choices::Walk::step` meets its contract. Assumes nothing.
+use mathlib.Core.Path.{sym, ap, _∙_}
+use borrow.Author.Tests.{ne-eqb}
+use Rattle.choices.proofs.Listed.{found-there, found-none}
+use Rattle.choices.specs.declared.Arrival.the-variants.{Refused}
+use Rattle.choices.specs.declared.Walk.{Walk}
+use Rattle.choices.specs.Choices.{passingOf}
+use Rattle.choices.specs.Order.{afterOf}
+use Rattle.choices.specs.Answers.{arriveAt, stepAnswer}
+use borrow.Author.Needs.{needs}
+use Rattle.choices.proofs.Walk.step.Statement.{statement}
+use Rattle.choices.proofs.Walk.step.Tie as tie
+
+judge-start-requires : tie.Need-judge-start-requires
+judge-start-requires c κs = search needs
+
+start-requires : tie.Need-start-requires
+start-requires c κs = search needs
+
+returns : tie.Need-returns
+unfolding stepAnswer
+returns c =
+    let refused = c .before .if1 .taken in
+    let said = c .before .before .judge-start .ensures in
+    rw (← said) (simp (ne-eqb _ 0 refused) (ap (λ (w : Walk). record { walk = w; arrival = Refused (c .before .before .judge-start .result) }) (c .start .ensures)))
+
+advance-requires : tie.Need-advance-requires
+advance-requires c κs =
+    sym (c .before .judge-start .ensures) ∙ c .if1 .left
+
+returns-2 : tie.Need-returns-2
+unfolding stepAnswer arriveAt
+returns-2 c =
+    let given = c .before .before .before .before .before .before in
+    let good = sym (c .before .before .before .before .judge-start .ensures) ∙ c .before .before .before .if1 .left in
+    let listed = found-there _ (afterOf (given .args .self .entries) (passingOf (given .args .table))) _ (c .before .before .advance .ensures) (c .before .if2 .taken) in
+    simp good (ap (arriveAt (given .args .self)) (sym listed))
+
+returns-3 : tie.Need-returns-3
+unfolding stepAnswer arriveAt
+returns-3 c =
+    let given = c .before .before .before .before .before in
+    let good = sym (c .before .before .before .judge-start .ensures) ∙ c .before .before .if1 .left in
+    let ended = found-none _ (afterOf (given .args .self .entries) (passingOf (given .args .table))) _ (c .before .advance .ensures) (c .if2 .left) in
+    simp good (ap (arriveAt (given .args .self)) (sym ended))
+
+pub step-spec : {M : Type 1} → statement M
+step-spec =
+    tie.close
+    (tie.spec judge-start-requires start-requires returns advance-requires returns-2 returns-3)

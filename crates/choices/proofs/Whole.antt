@@ -1,0 +1,60 @@
+-- Tests and carries over whole choices, place by place, as loops go through them. Assumes nothing.
+use Prim.Native.Nat.{ℕ, zero, suc, _+_, _≤_, _<_}
+use mathlib.Core.Path.{_≡_, ap, ap₂, _∙_}
+use mathlib.Core.Bool.{true, false, cond, not, _&&_}
+use mathlib.Core.List.{List, [], _∷_, _++_, map}
+use native.Mathlib.Nat.{not-suc-le-zero, le-of-suc-le-suc}
+use native.Mathlib.Numerals.{add-one}
+use native.Mathlib.Decide.{decLt}
+use native.Mathlib.Omega.{arith}
+use borrow.Author.Tests.{lt-ltb, le-ltb, le-leb, lt-leb}
+use lib.Dec.{eqb, ltb, leb}
+use lib.ListN.{length, getD, take, drop, replicate}
+use lib.Seq.{drop-cons, take-all}
+use Rattle.sheet.specs.Places.{filledBelow}
+use Rattle.sheet.proofs.Spelled.{spelled-take}
+use Rattle.choices.specs.Order.{isAllowed, allAllowed, allZero}
+use Rattle.choices.specs.Stepping.{firstFor, Carried, carried}
+
+-- what is not above is at most
+pub not-above : (a b : ℕ) → not (ltb b a) ≡ leb a b
+not-above a b = go (decLt b a)
+  where
+    go : Dec (b < a) → not (ltb b a) ≡ leb a b
+    go (yes h) = simp (lt-ltb b a h, lt-leb a b h)
+    go (no h) = simp (le-ltb b a (omega arith), le-leb a b (omega arith))
+
+-- the rest of a list from a place on is the element there and the rest after it
+rest : (l : List ℕ) (k : ℕ) → k < length l → drop k l ≡ getD l k 0 ∷ drop (k + 1) l
+rest l k h = rw add-one (drop-cons l k 0 h)
+
+pub zero-at : (l : List ℕ) (k : ℕ) → k < length l → allZero (drop k l) ≡ (eqb (getD l k 0) 0 && allZero (drop (k + 1) l))
+unfolding allZero
+zero-at l k h = ap allZero (rest l k h)
+
+pub allowed-at : (ps qs : List ℕ) (k : ℕ) → k < length ps → k < length qs → allAllowed (drop k ps) (drop k qs) ≡ (isAllowed (getD ps k 0) (getD qs k 0) && allAllowed (drop (k + 1) ps) (drop (k + 1) qs))
+unfolding allAllowed
+allowed-at ps qs k hp hq = ap₂ allAllowed (rest ps k hp) (rest qs k hq)
+
+-- eight places filled from a list of eight are the list's images
+pub filled-map : (f : ℕ → ℕ) (l : List ℕ) → length l ≡ 8 → filledBelow (λ k. f (getD l k 0)) 8 (replicate 8 0) ≡ map f l
+unfolding filledBelow
+filled-map f l e = ap (map f) (spelled-take 8 l 0 (omega arith) ∙ take-all 8 l (omega arith))
+
+-- a carry at a place: where none rose after it, the entry there rises, or goes back to its first
+pub carried-at : (ps qs : List ℕ) (k : ℕ) → k < length ps → k < length qs → carried (drop (k + 1) ps) (drop (k + 1) qs) .rose ≡ false
+    → carried (drop k ps) (drop k qs)
+    ≡ record { rose = ltb (getD qs k 0) (getD ps k 0); entries = cond (ltb (getD qs k 0) (getD ps k 0)) (suc (getD qs k 0)) (firstFor (getD ps k 0)) ∷ carried (drop (k + 1) ps) (drop (k + 1) qs) .entries }
+unfolding carried
+carried-at ps qs k hp hq e = ap₂ carried (rest ps k hp) (rest qs k hq) ∙ simp e
+
+-- where an entry rose from a place on, those before it stay
+pub carried-front : (k : ℕ) (ps qs : List ℕ) → k ≤ length ps → k ≤ length qs → carried (drop k ps) (drop k qs) .rose ≡ true
+    → carried ps qs ≡ record { rose = true; entries = take k qs ++ carried (drop k ps) (drop k qs) .entries }
+unfolding carried
+carried-front zero ps qs hp hq e = λ i. record { rose = e i; entries = carried ps qs .entries }
+carried-front (suc k) [] qs hp hq e = absurd (not-suc-le-zero hp)
+carried-front (suc k) (p ∷ ps) [] hp hq e = absurd (not-suc-le-zero hq)
+carried-front (suc k) (p ∷ ps) (q ∷ qs) hp hq e =
+    ap (λ (later : Carried). cond (later .rose) (record { rose = true; entries = q ∷ later .entries }) (record { rose = ltb q p; entries = cond (ltb q p) (suc q) (firstFor p) ∷ later .entries }))
+    (carried-front k ps qs (le-of-suc-le-suc hp) (le-of-suc-le-suc hq) e)

@@ -1,0 +1,66 @@
+-- `choices::list` meets its contract: refused, the output is as it was; else it starts with the list. Assumes nothing.
+use Prim.Native.Nat.{_*_, _/_, _≤_, _<_}
+use mathlib.Core.Path.{sym, _∙_}
+use native.Mathlib.Omega.{arith}
+use borrow.Author.Tests.{ne-eqb, leb-true, leb-false}
+use lib.ListN.{length}
+use Rattle.choices.proofs.Listed.{list-refused, list-short, list-fits}
+use Rattle.choices.specs.Choices.{passingOf}
+use Rattle.choices.specs.Answers.{listAnswer, listLeaves}
+use borrow.Author.Needs.{needs}
+use Rattle.choices.proofs.list.Statement.{statement}
+use Rattle.choices.proofs.list.Tie as tie
+
+judge-table-requires : tie.Need-judge-table-requires
+judge-table-requires c κs = search needs
+
+returns : tie.Need-returns
+unfolding listAnswer listLeaves
+returns c =
+    let given = c .before .before .before in
+    let refused = c .if1 .taken in
+    let refusal = list-refused (given .args .table) (given .args .out .now) (λ e. refused (c .before .judge-table .ensures ∙ e)) ∙ sym (c .before .judge-table .ensures) in
+    (simp (refusal, ne-eqb _ 0 refused), simp (refusal, ne-eqb _ 0 refused))
+
+fits-requires : tie.Need-fits-requires
+fits-requires c κs =
+    sym (c .before .judge-table .ensures) ∙ c .if1 .left
+
+fill-requires : tie.Need-fill-requires
+fill-requires c κs =
+    let given = c .before .before .before .before .before .before in
+    let room = leb-true (length (passingOf (given .args .table))) (length (given .args .out .now) / 4) (sym (c .before .before .fits2 .ensures) ∙ c .before .if2 .taken) in
+    (sym (c .before .before .before .before .judge-table .ensures) ∙ c .before .before .before .if1 .left, omega (arith, room))
+
+same-length : tie.Need-same-length
+same-length c = search needs
+
+returns-2 : tie.Need-returns-2
+unfolding listAnswer listLeaves
+returns-2 c =
+    let given = c .before .before .before .before .before .before .before .before .before in
+    let room = leb-true (length (passingOf (given .args .table))) (length (given .args .out .now) / 4) (sym (c .before .before .before .before .before .fits2 .ensures) ∙ c .before .before .before .before .if2 .taken) in
+    let fits : 4 * length (passingOf (given .args .table)) ≤ length (given .args .out .now) = omega (arith, room) in
+    let refusal = list-fits (given .args .table) (given .args .out .now) (sym (c .before .before .before .before .before .before .before .judge-table .ensures) ∙ c .before .before .before .before .before .before .if1 .left) fits in
+    (simp (refusal, c .before .before .fill .ensures .0), simp refusal (c .before .before .fill .ensures .1))
+
+returns-3 : tie.Need-returns-3
+unfolding listAnswer listLeaves
+returns-3 c =
+    let given = c .before .before .before .before .before in
+    let room = leb-false (length (passingOf (given .args .table))) (length (given .args .out .now) / 4) (sym (c .before .fits2 .ensures) ∙ c .if2 .left) in
+    let short : length (given .args .out .now) < 4 * length (passingOf (given .args .table)) = omega (arith, room) in
+    let refusal = list-short (given .args .table) (given .args .out .now) (sym (c .before .before .before .judge-table .ensures) ∙ c .before .before .if1 .left) short in
+    (simp refusal, simp refusal)
+
+pub list-spec : {M : Type 1} → statement M
+list-spec =
+    tie.close
+    (tie.spec
+    judge-table-requires
+    returns
+    fits-requires
+    fill-requires
+    same-length
+    returns-2
+    returns-3)

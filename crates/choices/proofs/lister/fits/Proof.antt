@@ -1,0 +1,79 @@
+-- `choices::lister::fits` meets its contract: what is left of the room and of the list fall together. Assumes nothing.
+use Prim.Native.Nat.{ℕ, _+_}
+use mathlib.Core.Path.{_≡_, sym, ap}
+use native.Mathlib.Omega.{arith}
+use lib.ListN.{length}
+use mathlib.Core.List.{List}
+use borrow.Author.Tests.{lt-leb, le-leb}
+use Rattle.choices.proofs.Listed.{found-there, found-none, from-start, start-allowed, next-listed}
+use Rattle.choices.specs.Choices.{passingOf}
+use Rattle.choices.specs.Order.{afterOf}
+use Rattle.choices.specs.Answers.{walkRefusal}
+use borrow.Author.Needs.{needs}
+use Rattle.choices.proofs.lister.fits.Statement.{statement}
+use Rattle.choices.proofs.lister.fits.Tie as tie
+
+abbrev Inv-loop : tie.InvT-loop
+Inv-loop table room walk₀ left₀ walk left = (walkRefusal table walk ≡ 0) × (length (afterOf walk (passingOf table)) + room ≡ length (passingOf table) + left)
+
+abbrev μ-loop : tie.MeasureT-loop
+μ-loop table room walk₀ left₀ walk left = length (afterOf walk (passingOf table))
+
+loop-holds : tie.Need-loop-holds Inv-loop μ-loop
+loop-holds c =
+    (start-allowed (c .args .table) (c .pre), ap (λ (l : List (List ℕ)). length l + c .args .room) (from-start (c .args .table) (c .pre)))
+
+advance-requires : tie.Need-advance-requires Inv-loop μ-loop
+advance-requires c κs =
+    c .loop .inv .0
+
+returns : tie.Need-returns Inv-loop μ-loop
+returns c =
+    let given = c .before .before .before .before in
+    let at = c .before .before .before .loop in
+    let listed = found-there _ (afterOf (at .walk) (passingOf (given .args .table))) _ (c .before .before .advance .ensures) (c .before .if1 .taken) in
+    let some = ap length listed in
+    sym (lt-leb (length (passingOf (given .args .table))) (given .args .room) (omega arith))
+
+sub-left : tie.Need-sub-left Inv-loop μ-loop
+sub-left c = search needs
+
+loop-less : tie.Need-loop-less Inv-loop μ-loop
+loop-less c =
+    let given = c .before .before .before .before .before in
+    let at = c .before .before .before .before .loop in
+    let listed = found-there _ (afterOf (at .walk) (passingOf (given .args .table))) _ (c .before .before .before .advance .ensures) (c .before .before .if1 .taken) in
+    let next = next-listed (given .args .table) (given .pre) (at .walk) _ _ listed in
+    let fewer = ap length listed in
+    omega (arith, ap length (next .after))
+
+loop-again : tie.Need-loop-again Inv-loop μ-loop
+loop-again c =
+    let given = c .before .before .before .before .before in
+    let at = c .before .before .before .before .loop in
+    let listed = found-there _ (afterOf (at .walk) (passingOf (given .args .table))) _ (c .before .before .before .advance .ensures) (c .before .before .if1 .taken) in
+    let next = next-listed (given .args .table) (given .pre) (at .walk) _ _ listed in
+    let fewer = ap length listed in
+    (next .going-on, omega (arith, ap length (next .after)))
+
+returns-2 : tie.Need-returns-2 Inv-loop μ-loop
+returns-2 c =
+    let given = c .before .before .before in
+    let at = c .before .before .loop in
+    let ended = found-none _ (afterOf (at .walk) (passingOf (given .args .table))) _ (c .before .advance .ensures) (c .if1 .left) in
+    let nothing = ap length ended in
+    sym (le-leb (length (passingOf (given .args .table))) (given .args .room) (omega arith))
+
+pub fits-spec : {M : Type 1} → statement M
+fits-spec =
+    tie.close
+    (tie.spec
+    Inv-loop
+    μ-loop
+    loop-holds
+    advance-requires
+    returns
+    sub-left
+    loop-less
+    loop-again
+    returns-2)

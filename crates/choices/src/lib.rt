@@ -1,0 +1,96 @@
+// Every choice of fault priorities under which a table passes: the walk from choice to choice, and the whole list.
+ghost use mathlib.Core.Path.{_≡_};
+ghost use Rattle.choices.specs.Answers.{startWalk, stepAnswer, listAnswer, listLeaves};
+use sheet::Table;
+
+mod lister;
+mod odometer;
+
+// Where a walk stands: one fault priority for each record, all zero before the first choice.
+pub struct Walk {
+    pub entries: [u8; 8],
+}
+
+// What a step comes to.
+pub enum Arrival {
+    Passing,
+    End,
+    Refused(u8),
+}
+
+// What `step` answers: the next walk, and what the step came to.
+pub struct Stepped {
+    pub walk: Walk,
+    pub arrival: Arrival,
+}
+
+// What `list` answers: the refusal, or 0 beside the number of entries.
+pub struct Listing {
+    pub refusal: u8,
+    pub entries: usize,
+}
+
+// A choice found, or that there is none.
+pub struct Found {
+    pub is_there: bool,
+    pub choice: [u8; 8],
+}
+
+impl Walk {
+    // The walk before the first choice.
+    pub fn start() -> Walk
+        ensures { λ r. ⌜ r ≡ startWalk ⌝ }
+    {
+        Walk { entries: [0u8; 8] }
+    }
+
+    // The next passing choice after the one that the walk stands at.
+    pub fn step(self, table: Table) -> Stepped
+        ensures { λ r. ⌜ r ≡ stepAnswer table self ⌝ }
+    {
+        let entries = self.entries;
+        let refusal = odometer::judge_start(table, entries);
+        if refusal != 0 {
+            return Stepped {
+                walk: Walk::start(),
+                arrival: Arrival::Refused(refusal),
+            };
+        }
+        let found = odometer::advance(table, entries);
+        if found.is_there {
+            let choice = found.choice;
+            return Stepped {
+                walk: Walk { entries: choice },
+                arrival: Arrival::Passing,
+            };
+        }
+        Stepped {
+            walk: self,
+            arrival: Arrival::End,
+        }
+    }
+}
+
+// Every passing choice, 4 bytes each, at the start of the output.
+pub fn list(table: Table, out: &mut [u8]) -> Listing
+    ensures { λ r. ⌜ (r ≡ listAnswer table (now (out .entry))) × (now (out .exit) ≡ listLeaves table (now (out .entry))) ⌝ }
+{
+    let refusal = sheet::judge_table(table);
+    if refusal != 0 {
+        return Listing {
+            refusal,
+            entries: 0,
+        };
+    }
+    if lister::fits(table, out.len() / 4) {
+        let entries = lister::fill(table, out);
+        return Listing {
+            refusal: 0,
+            entries,
+        };
+    }
+    Listing {
+        refusal: 11,
+        entries: 0,
+    }
+}

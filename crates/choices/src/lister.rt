@@ -1,0 +1,66 @@
+// The whole list: whether it fits its room, which is found without walking past that room, and then its bytes.
+ghost use mathlib.Core.Path.{_≡_};
+ghost use mathlib.Core.List.{_++_};
+ghost use Prim.Native.Nat.{_+_, _*_, _≤_};
+ghost use lib.Dec.{leb};
+ghost use lib.ListN.{length, drop};
+ghost use lib.Seq.{sets};
+ghost use Rattle.sheet.specs.Rules.{tableRefusal};
+ghost use Rattle.choices.specs.Choices.{passingOf};
+ghost use Rattle.choices.specs.Answers.{entryBytes, bytesOf};
+ghost use Rattle.choices.specs.Stepping.{small};
+use crate::odometer;
+use sheet::Table;
+
+// Whether there are no more passing choices than the room has entries.
+pub fn fits(table: Table, room: usize) -> bool
+    requires { ⌜ tableRefusal table ≡ 0 ⌝ }
+    ensures { λ r. ⌜ r ≡ leb (length (passingOf table)) room ⌝ }
+{
+    let mut walk = [0u8; 8];
+    let mut left = room;
+    loop {
+        let found = odometer::advance(table, walk);
+        if found.is_there {
+            if left == 0 {
+                return false;
+            }
+            left -= 1;
+            let later = found.choice;
+            walk = later;
+        } else {
+            return true;
+        }
+    }
+}
+
+// Puts one entry's four bytes, two records in each.
+fn put_entry(out: &mut [u8], at: usize, choice: [u8; 8])
+    requires { ⌜ (at + 4 ≤ length (now out)) × small choice ⌝ }
+    ensures { λ _. ⌜ now (out .exit) ≡ sets (now (out .entry)) at (entryBytes choice) ⌝ }
+{
+    out[at] = choice[0] * 16 + choice[1];
+    out[at + 1] = choice[2] * 16 + choice[3];
+    out[at + 2] = choice[4] * 16 + choice[5];
+    out[at + 3] = choice[6] * 16 + choice[7];
+}
+
+// Puts every passing choice, and counts them.
+pub fn fill(table: Table, out: &mut [u8]) -> usize
+    requires { ⌜ (tableRefusal table ≡ 0) × (4 * length (passingOf table) ≤ length (now out)) ⌝ }
+    ensures { λ r. ⌜ (r ≡ length (passingOf table)) × (now (out .exit) ≡ bytesOf (passingOf table) ++ drop (4 * length (passingOf table)) (now (out .entry))) ⌝ }
+{
+    let mut walk = [0u8; 8];
+    let mut entries: usize = 0;
+    loop {
+        let found = odometer::advance(table, walk);
+        if found.is_there {
+            let choice = found.choice;
+            put_entry(out, 4 * entries, choice);
+            entries += 1;
+            walk = choice;
+        } else {
+            return entries;
+        }
+    }
+}
