@@ -5,6 +5,5 @@ pub mod Climbing
 pub mod Tied
 pub mod Found
 pub mod Verdicts
-pub mod Rows
 pub mod Demands
 pub mod Unique

@@ -1,12 +1,12 @@
 -- A list entry's four bytes spelled out, and the bytes of a list: two records in each byte, four bytes to each choice. Assumes nothing.
-use Prim.Native.Nat.{ℕ, _+_, _*_, _<_, _≤_}
-use mathlib.Core.Path.{_≡_, refl, sym, ap, subst, _∙_}
+use Prim.Native.Nat.{ℕ, zero, suc, _+_, _*_, _<_, _≤_}
+use mathlib.Core.Path.{_≡_, refl, sym, ap, ap₂, subst, _∙_}
 use mathlib.Core.List.{List, [], _∷_, _++_, append-assoc, append-nil}
-use native.Mathlib.Nat.{zero-add, mul-zero, mul-suc}
+use native.Mathlib.Nat.{zero-add, mul-zero, mul-suc, not-suc-le-zero, le-of-suc-le-suc}
 use native.Mathlib.Numerals.{add-one}
 use native.Mathlib.Omega.{arith}
 use lib.ListN.{length, getD, take, drop, replicate, length-append}
-use lib.Seq.{sets, sets-eq, take-all, take-suc}
+use lib.Seq.{sets, sets-eq, take-all, take-suc, take-at, drop-at, drop-drop}
 use Rattle.sheet.specs.Packing.{regrouped}
 use Rattle.sheet.proofs.Packing.{Fit, none, one, join-first}
 use Rattle.sheet.proofs.Spelled.{spelled, spelled-take}
@@ -67,3 +67,15 @@ pub list-stored : (l : List (List ℕ)) (out : List ℕ) → 4 * length l ≤ le
 list-stored l out long =
     let whole : 0 + length (bytesOf l) ≡ 4 * length l = zero-add (length (bytesOf l)) ∙ length-bytes l in
     sets-eq (bytesOf l) out 0 (subst (λ (n : ℕ). n ≤ length out) (sym whole) long) ∙ ap (λ (n : ℕ). bytesOf l ++ drop n out) whole
+
+-- each choice's bytes stand at its own place
+pub entry-at : (l : List (List ℕ)) (rest : List ℕ) (k : ℕ) → k < length l → take 4 (drop (4 * k) (bytesOf l ++ rest)) ≡ entryBytes (getD l k [])
+unfolding bytesOf
+entry-at [] rest k h = absurd (not-suc-le-zero h)
+entry-at (c ∷ l) rest zero h = ap (take 4) (append-assoc (entryBytes c) (bytesOf l) rest) ∙ take-at (entryBytes c) (bytesOf l ++ rest) 4 (length-entry c)
+entry-at (c ∷ l) rest (suc k) h =
+    let further : 4 * suc k ≡ 4 + 4 * k = omega arith in
+    ap (take 4)
+    (ap₂ drop further (append-assoc (entryBytes c) (bytesOf l) rest) ∙ sym (drop-drop (4 * k) 4 (entryBytes c ++ (bytesOf l ++ rest)))
+    ∙ ap (drop (4 * k)) (drop-at (entryBytes c) (bytesOf l ++ rest) 4 (length-entry c)))
+    ∙ entry-at l rest k (le-of-suc-le-suc h)

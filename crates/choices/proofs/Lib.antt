@@ -10,3 +10,6 @@ pub mod Members
 pub mod Ordered
 pub mod Advancing
 pub mod Listed
+pub mod Rows
+pub mod Unique
+pub mod Demands

@@ -1,0 +1,114 @@
+-- The demands on the walk and the list in the request's words, about the definitions.
+-- That the list is strictly ascending, so that each choice stands once, is `passing-ascending` of Listed.antt with `ascending-once` of Ordered.antt;
+-- that a good table of n records has n! choices is `choices-count` of Counted.antt. Assumes nothing.
+use Prim.Native.Nat.{ℕ, zero, suc, _*_, _≤_, _<_}
+use mathlib.Core.Path.{_≡_, refl, sym, ap, _∙_, subst}
+use mathlib.Core.Bool.{Bool, true, false}
+use mathlib.Core.List.{List, [], _∷_, List·Memᴰ as In, List·Memᴰ·head as here, List·Memᴰ·cases-cons as cases-cons, List·Memᴰ·not-nil as not-nil}
+use mathlib.Core.Logic.{_↔_, _⊎_, inl, inr, ⊎-elim}
+use native.Mathlib.Omega.{arith}
+use lib.ListN.{length, getD, take, drop}
+use lib.Seq.{drop-cons, drop-length}
+use Rattle.sheet.specs.declared.Table.{Table}
+use Rattle.sheet.specs.Rules.{tableRefusal}
+use Rattle.choices.specs.declared.Walk.{Walk}
+use Rattle.choices.specs.declared.Arrival.the-variants.{Passing, End}
+use Rattle.choices.specs.declared.Stepped.{Stepped}
+use Rattle.choices.specs.Choices.{levelsOf, choicesOf, passingOf}
+use Rattle.choices.specs.Order.{before, allAllowed, afterOf}
+use Rattle.choices.specs.Answers.{startWalk, walkRefusal, arriveAt, stepAnswer, entryBytes, listRefusal, listLeaves}
+use Rattle.choices.proofs.Sifted.{sift-none}
+use Rattle.choices.proofs.Members.{sift-members, choices-sound, choices-complete}
+use Rattle.choices.proofs.Advancing.{passesWith, good-start}
+use Rattle.choices.proofs.Listed.{from-start, start-allowed, next-listed}
+use Rattle.choices.proofs.Entries.{entry-at}
+
+-- "each listed choice is allowed and passes; each allowed choice that passes is listed"
+pub listed-exactly : (t : Table) (c : List ℕ) → In c (passingOf t) ↔ ((allAllowed (levelsOf t) c ≡ true) × (passesWith t c ≡ true))
+unfolding passingOf
+listed-exactly t c =
+    let member = sift-members (passesWith t) (choicesOf (levelsOf t)) in
+    (λ m. (choices-sound (levelsOf t) (member .0 m .0), member .0 m .1), λ h. member .1 (choices-complete (levelsOf t) c (h .0), h .1))
+
+-- c is the first listed choice after a start: it is listed, comes after the start, and every other listed one after the start comes after it
+pub record FirstAfter (t : Table) (start c : List ℕ) : Type 0 where
+  pub is-listed : In c (passingOf t)
+  pub comes-after : before start c ≡ true
+  pub others-later : (d : List ℕ) → In d (passingOf t) → before start d ≡ true → (d ≡ c) ⊎ (before c d ≡ true)
+
+-- the two answers of a step that is not refused
+module _ (t : Table) (w : Walk) (good : walkRefusal t (w .entries) ≡ 0) where
+  step-is : stepAnswer t w ≡ arriveAt w (afterOf (w .entries) (passingOf t))
+  unfolding stepAnswer
+  step-is = simp good
+
+  -- "the step after any allowed choice gives the first listed one after it, and says end exactly if none is left"
+  pub step-first : (c : List ℕ) → stepAnswer t w ≡ record { walk = record { entries = c }; arrival = Passing } → FirstAfter t (w .entries) c
+  unfolding arriveAt afterOf
+  step-first c e = go (afterOf (w .entries) (passingOf t)) refl (sym step-is ∙ e)
+    where
+      go : (l : List (List ℕ)) → afterOf (w .entries) (passingOf t) ≡ l → arriveAt w l ≡ record { walk = record { entries = c }; arrival = Passing } → FirstAfter t (w .entries) c
+      go [] same said = absurd (let stop = ap (λ (r : Stepped). r .arrival) said in let z : _≡_ {A = ℕ} 0 1 = cc in omega arith)
+      go (d ∷ rest) same said =
+          let found : afterOf (w .entries) (passingOf t) ≡ c ∷ rest = same ∙ ap (λ (x : List ℕ). x ∷ rest) (ap (λ (r : Stepped). r .walk .entries) said) in
+          let member = sift-members (before (w .entries)) (passingOf t) in
+          let first = member .0 (subst (In c) (sym found) (here refl)) in
+          let next = next-listed t (good-start t (w .entries) good .0) (w .entries) c rest found in
+          record {
+            is-listed = first .0;
+            comes-after = first .1;
+            others-later = λ x m after. ⊎-elim inl (λ later. inr (sift-members (before c) (passingOf t) .0 (subst (In x) (sym (next .after)) later) .1)) (cases-cons (subst (In x) found (sift-members (before (w .entries)) (passingOf t) .1 (m, after))));
+          }
+
+  pub step-end : (stepAnswer t w ≡ record { walk = w; arrival = End }) ↔ ((c : List ℕ) → In c (passingOf t) → before (w .entries) c ≡ false)
+  unfolding arriveAt afterOf
+  step-end = (
+    λ e. none-later (afterOf (w .entries) (passingOf t)) refl (sym step-is ∙ e),
+    λ none. step-is ∙ ap (arriveAt w) (sift-none (before (w .entries)) (passingOf t) none),
+  )
+    where
+      none-later : (l : List (List ℕ)) → afterOf (w .entries) (passingOf t) ≡ l → arriveAt w l ≡ record { walk = w; arrival = End } → (c : List ℕ) → In c (passingOf t) → before (w .entries) c ≡ false
+      none-later [] same said c m = go (before (w .entries) c) refl
+        where
+          go : (b : Bool) → before (w .entries) c ≡ b → b ≡ false
+          go true h = absurd (not-nil (subst (In c) same (sift-members (before (w .entries)) (passingOf t) .1 (m, h))))
+          go false h = refl
+      none-later (d ∷ rest) same said c m = absurd (let stop = ap (λ (r : Stepped). r .arrival) said in let z : _≡_ {A = ℕ} 0 1 = cc in omega arith)
+
+-- the walk after so many steps from the start
+unfoldable pub walkAfter : Table → ℕ → Walk
+walkAfter t zero = startWalk
+walkAfter t (suc k) = stepAnswer t (walkAfter t k) .walk
+
+-- "walking from the start until the end visits exactly the list": step k comes to the listed choice at place k, and the step after the last says end
+module _ (t : Table) (good : tableRefusal t ≡ 0) where
+  came : (k : ℕ) → walkRefusal t (walkAfter t k .entries) ≡ 0 → k < length (passingOf t) → afterOf (walkAfter t k .entries) (passingOf t) ≡ getD (passingOf t) k [] ∷ drop (suc k) (passingOf t)
+      → stepAnswer t (walkAfter t k) ≡ record { walk = record { entries = getD (passingOf t) k [] }; arrival = Passing }
+  unfolding arriveAt
+  came k allowed h found = step-is t (walkAfter t k) allowed ∙ ap (arriveAt (walkAfter t k)) found
+
+  stands : (k : ℕ) → k ≤ length (passingOf t) → (walkRefusal t (walkAfter t k .entries) ≡ 0) × (afterOf (walkAfter t k .entries) (passingOf t) ≡ drop k (passingOf t))
+  unfolding walkAfter
+  stands zero h = (start-allowed t good, from-start t good)
+  stands (suc k) h =
+      let at = stands k (omega arith) in
+      let found = at .1 ∙ drop-cons (passingOf t) k [] h in
+      let next = next-listed t good (walkAfter t k .entries) _ _ found in
+      let here-now = ap (λ (r : Stepped). r .walk .entries) (came k (at .0) h found) in
+      subst (λ (c : List ℕ). (walkRefusal t c ≡ 0) × (afterOf c (passingOf t) ≡ drop (suc k) (passingOf t))) (sym here-now) (next .going-on, next .after)
+
+  pub walk-visits : (k : ℕ) → k < length (passingOf t) → stepAnswer t (walkAfter t k) ≡ record { walk = record { entries = getD (passingOf t) k [] }; arrival = Passing }
+  walk-visits k h =
+      let at = stands k (omega arith) in
+      came k (at .0) h (at .1 ∙ drop-cons (passingOf t) k [] h)
+
+  pub walk-ends : stepAnswer t (walkAfter t (length (passingOf t))) ≡ record { walk = walkAfter t (length (passingOf t)); arrival = End }
+  unfolding arriveAt
+  walk-ends =
+      let at = stands (length (passingOf t)) (omega arith) in
+      step-is t (walkAfter t (length (passingOf t))) (at .0) ∙ ap (arriveAt (walkAfter t (length (passingOf t)))) (at .1 ∙ drop-length (passingOf t))
+
+-- "the list's bytes are those entries in that order"
+pub list-bytes : (t : Table) (out : List ℕ) → listRefusal t out ≡ 0 → (k : ℕ) → k < length (passingOf t) → take 4 (drop (4 * k) (listLeaves t out)) ≡ entryBytes (getD (passingOf t) k [])
+unfolding listLeaves
+list-bytes t out good k below = simp good (entry-at (passingOf t) (drop (4 * length (passingOf t)) out) k below)
