@@ -41,6 +41,10 @@ pub entry-spelled : (choice : List ℕ) → length choice ≡ 8 → ((k : ℕ) �
 unfolding entryBytes
 entry-spelled choice e h = ap (regrouped (replicate 8 4) (replicate 4 8)) (sym (spelled-take 8 choice 0 (omega arith) ∙ take-all 8 choice (omega arith))) ∙ entry-fields (λ k. getD choice k 0) h
 
+-- the eight entries' bounds side by side
+pub entries-small : (choice : List ℕ) → ((k : ℕ) → getD choice k 0 < 16) → (getD choice 0 0 < 16) × (getD choice 1 0 < 16) × (getD choice 2 0 < 16) × (getD choice 3 0 < 16) × (getD choice 4 0 < 16) × (getD choice 5 0 < 16) × (getD choice 6 0 < 16) × (getD choice 7 0 < 16)
+entries-small choice h = (h 0, h 1, h 2, h 3, h 4, h 5, h 6, h 7)
+
 -- four bytes to each choice
 pub length-entry : (choice : List ℕ) → length (entryBytes choice) ≡ 4
 unfolding entryBytes

@@ -3,7 +3,7 @@ use native.Mathlib.Numerals.{towards-suc}
 use native.Mathlib.Omega.{arith}
 use lib.ListN.{length-set}
 use Rattle.choices.specs.Stepping.{small}
-use Rattle.choices.proofs.Entries.{entry-spelled}
+use Rattle.choices.proofs.Entries.{entries-small, entry-spelled}
 use borrow.Author.Needs.{needs}
 use Rattle.choices.proofs.lister.put_entry.Statement.{statement}
 use Rattle.choices.proofs.lister.put_entry.Tie as tie
@@ -13,14 +13,14 @@ array-read-out c = search needs
 
 mul-out : tie.Need-mul-out
 unfolding small
-mul-out c = omega (arith, c .pre .1 0)
+mul-out c = omega (arith, entries-small (c .args .t3) (c .pre .1))
 
 array-read-out-2 : tie.Need-array-read-out-2
 array-read-out-2 c = search needs
 
 add-out : tie.Need-add-out
 unfolding small
-add-out c = omega (arith, c .pre .1 0, c .pre .1 1)
+add-out c = omega (arith, entries-small (c .args .t3) (c .pre .1))
 
 slice-write-out : tie.Need-slice-write-out
 slice-write-out c = search needs
@@ -30,14 +30,14 @@ array-read-out-3 c = search needs
 
 mul-out-2 : tie.Need-mul-out-2
 unfolding small
-mul-out-2 c = omega (arith, c .pre .1 2)
+mul-out-2 c = omega (arith, entries-small (c .args .t3) (c .pre .1))
 
 array-read-out-4 : tie.Need-array-read-out-4
 array-read-out-4 c = search needs
 
 add-out-2 : tie.Need-add-out-2
 unfolding small
-add-out-2 c = omega (arith, c .pre .1 2, c .pre .1 3)
+add-out-2 c = omega (arith, entries-small (c .args .t3) (c .pre .1))
 
 add-out-3 : tie.Need-add-out-3
 add-out-3 c = search needs
@@ -50,14 +50,14 @@ array-read-out-5 c = search needs
 
 mul-out-3 : tie.Need-mul-out-3
 unfolding small
-mul-out-3 c = omega (arith, c .pre .1 4)
+mul-out-3 c = omega (arith, entries-small (c .args .t3) (c .pre .1))
 
 array-read-out-6 : tie.Need-array-read-out-6
 array-read-out-6 c = search needs
 
 add-out-4 : tie.Need-add-out-4
 unfolding small
-add-out-4 c = omega (arith, c .pre .1 4, c .pre .1 5)
+add-out-4 c = omega (arith, entries-small (c .args .t3) (c .pre .1))
 
 add-out-5 : tie.Need-add-out-5
 add-out-5 c = search needs
@@ -70,14 +70,14 @@ array-read-out-7 c = search needs
 
 mul-out-4 : tie.Need-mul-out-4
 unfolding small
-mul-out-4 c = omega (arith, c .pre .1 6)
+mul-out-4 c = omega (arith, entries-small (c .args .t3) (c .pre .1))
 
 array-read-out-8 : tie.Need-array-read-out-8
 array-read-out-8 c = search needs
 
 add-out-6 : tie.Need-add-out-6
 unfolding small
-add-out-6 c = omega (arith, c .pre .1 6, c .pre .1 7)
+add-out-6 c = omega (arith, entries-small (c .args .t3) (c .pre .1))
 
 add-out-7 : tie.Need-add-out-7
 add-out-7 c = search needs
