@@ -1,4 +1,4 @@
--- A table of n records that is not refused has n! choices: its priorities are n different numbers from 1 to n, and their product counts the choices.
+-- Places with n different priorities from 1 to n have n! choices: the product of the priorities counts them.
 -- Assumes nothing.
 use Prim.Native.Nat.{ℕ, zero, suc, _*_, _≤_, _<_, suc-le-suc}
 use mathlib.Core.Path.{_≡_, refl, sym, ap, ap₂, _∙_}
@@ -11,13 +11,9 @@ use borrow.Author.Tests.{eq-eqb, ne-eqb, lt-ltb, le-ltb}
 use lib.Dec.{eqb, ltb}
 use lib.ListN.{length, getD, set, replicate, length-append, length-map, getD-replicate}
 use lib.Seq.{getD-set-other}
-use Rattle.sheet.specs.declared.Table.{Table}
 use Rattle.sheet.specs.Places.{someBelow, filledBelow}
-use Rattle.sheet.specs.Layout.{recordAt}
-use Rattle.sheet.specs.Rules.{taken, tableRefusal}
 use Rattle.sheet.proofs.Turns.{length-filled}
-use Rattle.sheet.proofs.Cases.{good-table, good-at}
-use Rattle.choices.specs.Choices.{levelsOf, inRow, entriesFor, spread, choicesOf}
+use Rattle.choices.specs.Choices.{inRow, entriesFor, spread, choicesOf}
 
 -- n!
 unfoldable pub factorial : ℕ → ℕ
@@ -142,11 +138,6 @@ filled-count f (suc n) few some =
     set-count (filledBelow f n (replicate 8 0)) n (f n) (omega (arith, length-filled f n (replicate 8 0))) (filled-past f n (replicate 8 0) 0 n (omega arith) ∙ getD-replicate 8 n 0 0 few)
     ∙ ap₂ _*_ (entries-length (f n) (some n (omega arith))) (filled-count f n (omega arith) (λ k h. some k (omega arith)))
 
--- "there are n! of them": the choices of a table of n records that is not refused
-pub choices-count : (t : Table) → tableRefusal t ≡ 0 → length (choicesOf (levelsOf t)) ≡ factorial (t .count)
-unfolding levelsOf taken
-choices-count t good =
-    let table = good-table t good in
-    let each = good-at (t .count) (recordAt (t .records)) (table .records) in
-    filled-count (λ k. recordAt (t .records) k .priority) (t .count) (table .count .1) (λ k h. each k h .priority .0)
-    ∙ product-factorial (λ k. recordAt (t .records) k .priority) (t .count) (λ k h. each k h .priority) (λ k h. each k h .fresh)
+-- eight places of which the first n have n different priorities from 1 to n have n! choices
+pub filled-factorial : (f : ℕ → ℕ) (n : ℕ) → n ≤ 8 → ((k : ℕ) → k < n → (1 ≤ f k) × (f k ≤ n)) → Fresh f n → length (choicesOf (filledBelow f n (replicate 8 0))) ≡ factorial n
+filled-factorial f n few within fresh = filled-count f n few (λ k h. within k h .0) ∙ product-factorial f n within fresh

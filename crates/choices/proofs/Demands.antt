@@ -1,16 +1,17 @@
 -- The demands on the walk and the list in the request's words, about the definitions.
--- That the list is strictly ascending, so that each choice stands once, is `passing-ascending` of Listed.antt with `ascending-once` of Ordered.antt;
--- that a good table of n records has n! choices is `choices-count` of Counted.antt. Assumes nothing.
+-- Assumes nothing.
 use Prim.Native.Nat.{ℕ, zero, suc, _*_, _≤_, _<_}
 use mathlib.Core.Path.{_≡_, refl, sym, ap, _∙_, subst}
-use mathlib.Core.Bool.{Bool, true, false}
+use mathlib.Core.Bool.{Bool, true, false, true≢false}
 use mathlib.Core.List.{List, [], _∷_, List·Memᴰ as In, List·Memᴰ·head as here, List·Memᴰ·cases-cons as cases-cons, List·Memᴰ·not-nil as not-nil}
 use mathlib.Core.Logic.{_↔_, _⊎_, inl, inr, ⊎-elim}
 use native.Mathlib.Omega.{arith}
 use lib.ListN.{length, getD, take, drop}
 use lib.Seq.{drop-cons, drop-length}
 use Rattle.sheet.specs.declared.Table.{Table}
-use Rattle.sheet.specs.Rules.{tableRefusal}
+use Rattle.sheet.specs.Layout.{recordAt}
+use Rattle.sheet.specs.Rules.{taken, tableRefusal}
+use Rattle.sheet.proofs.Cases.{good-table, good-at}
 use Rattle.choices.specs.declared.Walk.{Walk}
 use Rattle.choices.specs.declared.Arrival.the-variants.{Passing, End}
 use Rattle.choices.specs.declared.Stepped.{Stepped}
@@ -20,7 +21,9 @@ use Rattle.choices.specs.Answers.{startWalk, walkRefusal, arriveAt, step
 use Rattle.choices.proofs.Sifted.{sift-none}
 use Rattle.choices.proofs.Members.{sift-members, choices-sound, choices-complete}
 use Rattle.choices.proofs.Advancing.{passesWith, good-start}
-use Rattle.choices.proofs.Listed.{from-start, start-allowed, next-listed}
+use Rattle.choices.proofs.Counted.{factorial, filled-factorial}
+use Rattle.choices.proofs.Ordered.{before-irreflexive, ascending-places}
+use Rattle.choices.proofs.Listed.{from-start, passing-ascending, start-allowed, next-listed}
 use Rattle.choices.proofs.Entries.{entry-at}
 
 -- "each listed choice is allowed and passes; each allowed choice that passes is listed"
@@ -29,6 +32,22 @@ unfolding passingOf
 listed-exactly t c =
     let member = sift-members (passesWith t) (choicesOf (levelsOf t)) in
     (λ m. (choices-sound (levelsOf t) (member .0 m .0), member .0 m .1), λ h. member .1 (choices-complete (levelsOf t) c (h .0), h .1))
+
+-- "strictly ascending, so each stands once"
+pub listed-ascending : (t : Table) (j k : ℕ) → j < k → k < length (passingOf t) → before (getD (passingOf t) j []) (getD (passingOf t) k []) ≡ true
+listed-ascending t = ascending-places (passing-ascending t)
+
+pub listed-once : (t : Table) (j k : ℕ) → j < k → k < length (passingOf t) → getD (passingOf t) j [] ≡ getD (passingOf t) k [] → ⊥
+listed-once t j k h below same =
+    true≢false (sym (listed-ascending t j k h below) ∙ ap (before (getD (passingOf t) j [])) (sym same) ∙ before-irreflexive (getD (passingOf t) j []))
+
+-- "a good table of n records has n! choices"
+pub choices-count : (t : Table) → tableRefusal t ≡ 0 → length (choicesOf (levelsOf t)) ≡ factorial (t .count)
+unfolding levelsOf taken
+choices-count t good =
+    let table = good-table t good in
+    let each = good-at (t .count) (recordAt (t .records)) (table .records) in
+    filled-factorial (λ k. recordAt (t .records) k .priority) (t .count) (table .count .1) (λ k h. each k h .priority) (λ k h. each k h .fresh)
 
 -- c is the first listed choice after a start: it is listed, comes after the start, and every other listed one after the start comes after it
 pub record FirstAfter (t : Table) (start c : List ℕ) : Type 0 where

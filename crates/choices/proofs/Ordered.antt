@@ -2,10 +2,10 @@
 -- Assumes nothing.
 use Prim.Native.Nat.{ℕ, zero, suc, _<_}
 use mathlib.Core.Path.{_≡_, refl, sym, ap, _∙_, subst}
-use mathlib.Core.Bool.{Bool, true, false, cond, _&&_, _||_, true≢false, false≢true}
+use mathlib.Core.Bool.{Bool, true, false, cond, _&&_, _||_, false≢true}
 use mathlib.Core.List.{List, [], _∷_, _++_, map, List·Memᴰ as In, List·Memᴰ·head as here, List·Memᴰ·tail as there, List·Memᴰ·append-cases, List·Memᴰ·not-nil as not-nil, Memᴰ·append-right, Memᴰ·of-map}
 use mathlib.Core.Logic.{_⊎_, inl, inr, ⊎-elim}
-use native.Mathlib.Nat.{le-refl}
+use native.Mathlib.Nat.{le-refl, le-of-suc-le-suc, not-suc-le-zero}
 use native.Mathlib.Omega.{arith}
 use borrow.Author.Tests.{lt-ltb, le-ltb, ltb-true, eq-eqb, ne-eqb, eqb-true}
 use lib.Dec.{eqb, ltb}
@@ -72,9 +72,18 @@ pub data Ascending : List (List ℕ) → Type 0 where
   none : Ascending []
   more : {c : List ℕ} {l : List (List ℕ)} → ((d : List ℕ) → In d l → before c d ≡ true) → Ascending l → Ascending (c ∷ l)
 
--- so that none stands again later
-pub ascending-once : {c : List ℕ} {l : List (List ℕ)} → Ascending (c ∷ l) → In c l → ⊥
-ascending-once {c} (more first later) m = true≢false (sym (first c m) ∙ before-irreflexive c)
+-- what stands at a place is a member
+in-at : (l : List (List ℕ)) (k : ℕ) → k < length l → In (getD l k []) l
+in-at [] k h = absurd (not-suc-le-zero h)
+in-at (c ∷ l) zero h = here refl
+in-at (c ∷ l) (suc k) h = there (in-at l k (le-of-suc-le-suc h))
+
+-- so what stands at an earlier place comes before what stands at a later one
+pub ascending-places : {l : List (List ℕ)} → Ascending l → (j k : ℕ) → j < k → k < length l → before (getD l j []) (getD l k []) ≡ true
+ascending-places none j k h below = absurd (not-suc-le-zero below)
+ascending-places (more first later) j zero h below = absurd (not-suc-le-zero h)
+ascending-places (more first later) zero (suc k) h below = first _ (in-at _ k (le-of-suc-le-suc below))
+ascending-places (more first later) (suc j) (suc k) h below = ascending-places later j k (le-of-suc-le-suc h) (le-of-suc-le-suc below)
 
 -- a sift of an ascending list ascends
 pub sift-ascending : (test : List ℕ → Bool) {l : List (List ℕ)} → Ascending l → Ascending (sift test l)
