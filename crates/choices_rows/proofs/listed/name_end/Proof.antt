@@ -1,0 +1,36 @@
+-- `choices_rows::listed::name_end` gives a place from the start on, in the list or at its end. The loop's invariant: the place is such a one. Assumes nothing.
+use borrow.Author.Needs.{needs}
+use Prim.Native.Nat.{_≤_, _-_}
+use lib.ListN.{length}
+use Rattle.choices_rows.proofs.listed.name_end.Statement.{statement}
+use Rattle.choices_rows.proofs.listed.name_end.Tie as tie
+
+abbrev Inv-loop : tie.InvT-loop
+Inv-loop list start place₀ place = (start ≤ place) × (place ≤ length list)
+
+abbrev μ-loop : tie.MeasureT-loop
+μ-loop list start place₀ place = length list - place
+
+loop-holds : tie.Need-loop-holds Inv-loop μ-loop
+loop-holds c = search needs
+
+shared-slice-read-if1 : tie.Need-shared-slice-read-if1 Inv-loop μ-loop
+shared-slice-read-if1 c = search needs
+
+returns : tie.Need-returns Inv-loop μ-loop
+returns c = search needs
+
+add-place : tie.Need-add-place Inv-loop μ-loop
+add-place c = search needs
+
+loop-less : tie.Need-loop-less Inv-loop μ-loop
+loop-less c = search needs
+
+loop-again : tie.Need-loop-again Inv-loop μ-loop
+loop-again c = search needs
+
+returns-2 : tie.Need-returns-2 Inv-loop μ-loop
+returns-2 c = search needs
+
+pub name-end-spec : {M : Type 1} → statement M
+name-end-spec = tie.close (tie.spec Inv-loop μ-loop loop-holds shared-slice-read-if1 returns add-place loop-less loop-again returns-2)
