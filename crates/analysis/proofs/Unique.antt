@@ -5,12 +5,16 @@ use Prim.Native.Nat.{ℕ}
 use Rattle.sheet.specs.declared.Table.{Table}
 use Rattle.sheet.proofs.Unique.{both}
 use Rattle.analysis.specs.declared.Times.{Times}
+use Rattle.analysis.specs.declared.Timed.{Timed}
 use Rattle.analysis.specs.declared.Passing.{Passing}
 use Rattle.analysis.specs.declared.Interval.{Interval}
-use Rattle.analysis.specs.Answers.{timesAnswer, verdictAnswer, choiceAnswer, intervalAnswer}
+use Rattle.analysis.specs.Answers.{timesAnswer, timedAnswer, verdictAnswer, choiceAnswer, intervalAnswer}
 
 pub response-times-unique : (t : Table) (a b : Times) → a ≡ timesAnswer t → b ≡ timesAnswer t → a ≡ b
 response-times-unique t a b = both
+
+pub response-time-unique : (t : Table) (place : ℕ) (a b : Timed) → a ≡ timedAnswer t place → b ≡ timedAnswer t place → a ≡ b
+response-time-unique t place a b = both
 
 pub verdict-unique : (t : Table) (a b : Passing) → a ≡ verdictAnswer t → b ≡ verdictAnswer t → a ≡ b
 verdict-unique t a b = both

@@ -2,15 +2,16 @@
 use Prim.Native.Nat.{ℕ}
 use mathlib.Core.Bool.{Bool, false, cond}
 use mathlib.Core.List.{List}
-use lib.Dec.{eqb}
+use lib.Dec.{eqb, ltb}
 use lib.ListN.{replicate}
 use Rattle.sheet.specs.declared.Table.{Table}
-use Rattle.sheet.specs.Places.{filledBelow}
+use Rattle.sheet.specs.Places.{orElse, filledBelow}
 use Rattle.sheet.specs.Rules.{tableRefusal}
 use Rattle.analysis.specs.declared.Outcome.{Outcome}
 use Rattle.analysis.specs.declared.Outcome.the-variants.{OnTime, Late}
 use Rattle.analysis.specs.declared.Entry.{Entry}
 use Rattle.analysis.specs.declared.Times.{Times}
+use Rattle.analysis.specs.declared.Timed.{Timed}
 use Rattle.analysis.specs.declared.Passing.{Passing}
 use Rattle.analysis.specs.declared.Interval.{Interval}
 use Rattle.analysis.specs.declared.Interval.the-variants.{Refused, Least, Nothing}
@@ -37,6 +38,14 @@ ownTasks t = tasksOf t (t .interval) (ownChoice (t .records))
 -- `response_times`: the refusal beside eight entries
 unfoldable pub timesAnswer : Table → Times
 timesAnswer t = record { refusal = tableRefusal t; entries = cond (eqb (tableRefusal t) 0) (filledBelow (entryOf (ownTasks t)) (t .count) (replicate 8 noEntry)) (replicate 8 noEntry) }
+
+-- the refusal of `response_time`: the table's, then 12, "the record place asked for is not below the count"
+unfoldable pub timedRefusal : Table → ℕ → ℕ
+timedRefusal t place = orElse (tableRefusal t) (cond (ltb place (t .count)) 0 12)
+
+-- `response_time`: the refusal beside the record's entry
+unfoldable pub timedAnswer : Table → ℕ → Timed
+timedAnswer t place = record { refusal = timedRefusal t place; entry = cond (eqb (timedRefusal t place) 0) (entryOf (ownTasks t) place) noEntry }
 
 -- the refusal beside yes or no; "the verdict of a refused call is no"
 unfoldable pub passingOf : ℕ → Bool → Passing

@@ -1,7 +1,7 @@
 // Response times, the verdict and the least fault interval of a timing table, by the equations of document 01.
 // Every call answers any table: a refused one gets its number, beside zeros, no, or nothing else.
 ghost use mathlib.Core.Path.{_≡_};
-ghost use Rattle.analysis.specs.Answers.{timesAnswer, verdictAnswer, choiceAnswer, intervalAnswer};
+ghost use Rattle.analysis.specs.Answers.{timesAnswer, timedRefusal, timedAnswer, verdictAnswer, choiceAnswer, intervalAnswer};
 use sheet::Table;
 
 mod response;
@@ -24,6 +24,12 @@ pub struct Entry {
 pub struct Times {
     pub refusal: u8,
     pub entries: [Entry; 8],
+}
+
+// What `response_time` answers: the refusal, or 0 beside the record's entry.
+pub struct Timed {
+    pub refusal: u8,
+    pub entry: Entry,
 }
 
 // What `verdict` answers: the refusal, or 0 beside yes or no.
@@ -65,6 +71,33 @@ pub fn response_times(table: Table) -> Times
         refusal: 0,
         entries,
     }
+}
+
+// The refusal of asking a table for the record at a place: the table's own, then 12.
+fn judge_place(table: Table, place: usize) -> u8
+    ensures { λ r. ⌜ r ≡ timedRefusal table place ⌝ }
+{
+    let refusal = sheet::judge_table(table);
+    if refusal != 0 {
+        return refusal;
+    }
+    if place < table.count as usize { 0 } else { 12 }
+}
+
+// The response time, or late, of the record at a place, beside its deadline.
+pub fn response_time(table: Table, place: usize) -> Timed
+    ensures { λ r. ⌜ r ≡ timedAnswer table place ⌝ }
+{
+    let refusal = judge_place(table, place);
+    if refusal != 0 {
+        return Timed {
+            refusal,
+            entry: response::no_entry(),
+        };
+    }
+    let records = table.records;
+    let entry = response::entry(table, response::own_choice(records), place);
+    Timed { refusal: 0, entry }
 }
 
 // Whether no task is late.

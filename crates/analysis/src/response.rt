@@ -129,7 +129,7 @@ fn outcome(time: u16) -> Outcome
     Outcome::OnTime(time)
 }
 
-fn no_entry() -> Entry
+pub fn no_entry() -> Entry
     ensures { λ r. ⌜ r ≡ noEntry ⌝ }
 {
     Entry {
@@ -158,7 +158,7 @@ pub fn own_choice(records: [Record; 8]) -> [u8; 8]
 }
 
 // The entry of the record at a place.
-fn entry(table: Table, choice: [u8; 8], place: usize) -> Entry
+pub fn entry(table: Table, choice: [u8; 8], place: usize) -> Entry
     requires { ⌜ (tableRefusal table ≡ 0) × (place < table .count) ⌝ }
     ensures { λ r. ⌜ r ≡ entryOf (tasksOf table (table .interval) choice) place ⌝ }
 {

@@ -197,16 +197,20 @@ pub good-at : (n : ℕ) (at : ℕ → Record) → recordsRefusal n at ≡ 0 → 
 unfolding recordsRefusal recordRefusal
 good-at n at e place below = good-record n _ (at place) (first-all (recordRefusal n at) n e place below)
 
+-- a place that rule 12 lets through is below the count
+pub place-below : (place n : ℕ) → _≡_ {A = ℕ} (cond (ltb place n) 0 12) 0 → place < n
+place-below place n e = ltb-true place n (kept (ltb place n) e)
+  where
+    kept : (b : Bool) → _≡_ {A = ℕ} (cond b 0 12) 0 → b ≡ true
+    kept true z = refl
+    kept false z = absurd (suc-ne-zero 11 z)
+
 -- what a place that is not refused is known for
 pub good-place : (s : List ℕ) (place : ℕ) → placeRefusal s place ≡ 0 → GoodHeader s × (place < countOf s)
 unfolding placeRefusal
 good-place s place e =
     let both = none-of (sheetRefusal s) (cond (ltb place (countOf s)) 0 12) e in
-    (good-sheet s (both .0) .0, ltb-true place (countOf s) (kept (ltb place (countOf s)) (both .1)))
-  where
-    kept : (b : Bool) → _≡_ {A = ℕ} (cond b 0 12) 0 → b ≡ true
-    kept true z = refl
-    kept false z = absurd (suc-ne-zero 11 z)
+    (good-sheet s (both .0) .0, place-below place (countOf s) (both .1))
 
 -- the refusals of a write
 module _ (t : Table) (out : List ℕ) where
