@@ -13,7 +13,7 @@ use Rattle.analysis.specs.Search.{leastWithin}
 use Rattle.analysis.specs.Response.{timeElsewhere, lengthOne}
 use Rattle.analysis.specs.Demand.{loadOf, demandOf}
 use Rattle.analysis.proofs.Climbing.{least-agree}
-use Rattle.analysis.proofs.Tied.{demandElsewhere, demandOne, demandTwo, elsewhere-tied, one-tied, two-tied, nobody-out}
+use Rattle.analysis.proofs.Tied.{demandElsewhere, demandOne, demandTwo, elsewhere-tied, one-tied, two-tied}
 
 -- the demand does not read the fault priorities
 faultless : (t : Table) (interval : ℕ) (choice : List ℕ) (d : Demand) (L : ℕ) → demandOf (tasksOf t interval []) d L ≡ demandOf (tasksOf t interval choice) d L
@@ -32,26 +32,19 @@ module _ (t : Table) (interval : ℕ) (choice : List ℕ) (i : ℕ) where
       ap₂ (λ (d : Demand) (n : ℕ). leastWithin (demandOf (tasksOf t interval []) d) 1 n) (λ j. record { base = b j; level = recordAt (t .records) i .priority; omitted = i; backup = m j; paid = 0 }) l
       ∙ least-agree _ (struckElsewhere tasks i) 1 _ (λ L low. faultless t interval choice (demandElsewhere tasks i) L ∙ elsewhere-tied tasks i L)
 
-  module _ (few : t .count ≤ 8) where
-    -- where no record is left out, the largest backup is that of all
-    all-meant : {backup : ℕ} (level : ℕ) → backup ≡ largestBackup (tasksOf t 0 choice) (others 8) level → backup ≡ largestBackup (tasksOf t 0 choice) everyone level
-    all-meant level m = m ∙ nobody-out (tasksOf t 0 choice) level few
+  pub one-found : {base backup paid limit : ℕ} → 1 ≤ interval → base ≡ recordAt (t .records) i .backup → backup ≡ largestBackup (tasksOf t 0 choice) everyone (getD choice i 0) → paid ≡ backup → limit ≡ recordAt (t .records) i .deadline
+      → leastWithin (demandOf (tasksOf t interval []) (record { base = base; level = getD choice i 0; omitted = i; backup = backup; paid = paid })) 1 limit ≡ lengthOne tasks i
+  unfolding lengthOne backupFromFault largestBackup
+  one-found some b m p l =
+      ap₂ (λ (d : Demand) (n : ℕ). leastWithin (demandOf (tasksOf t interval []) d) 1 n) (λ j. record { base = b j; level = getD choice i 0; omitted = i; backup = m j; paid = (p ∙ m) j }) l
+      ∙ least-agree _ (stageOne tasks i) 1 _ (λ L low. faultless t interval choice (demandOne tasks i) L ∙ one-tied tasks i L some low)
 
-    pub one-found : {base backup paid limit : ℕ} → 1 ≤ interval → base ≡ recordAt (t .records) i .backup → backup ≡ largestBackup (tasksOf t 0 choice) (others 8) (getD choice i 0) → paid ≡ backup → limit ≡ recordAt (t .records) i .deadline
-        → leastWithin (demandOf (tasksOf t interval []) (record { base = base; level = getD choice i 0; omitted = i; backup = backup; paid = paid })) 1 limit ≡ lengthOne tasks i
-    unfolding lengthOne backupFromFault largestBackup
-    one-found some b m p l =
-        let n = all-meant (getD choice i 0) m in
-        ap₂ (λ (d : Demand) (n : ℕ). leastWithin (demandOf (tasksOf t interval []) d) 1 n) (λ j. record { base = b j; level = getD choice i 0; omitted = i; backup = n j; paid = (p ∙ n) j }) l
-        ∙ least-agree _ (stageOne tasks i) 1 _ (λ L low. faultless t interval choice (demandOne tasks i) L ∙ one-tied tasks i L some low)
-
-    pub two-found : (first : ℕ) {base backup paid limit : ℕ} → base ≡ first + recordAt (t .records) i .cost → backup ≡ largestBackup (tasksOf t 0 choice) (others 8) (recordAt (t .records) i .priority)
-        → paid ≡ loadOf (tasksOf t interval []) (record { base = base; level = recordAt (t .records) i .priority; omitted = i; backup = backup; paid = 0 }) first → limit ≡ recordAt (t .records) i .deadline
-        → leastWithin (demandOf (tasksOf t interval []) (record { base = base; level = recordAt (t .records) i .priority; omitted = i; backup = backup; paid = paid })) first limit
-        ≡ leastWithin (stageTwo tasks i first) first (recordAt (t .records) i .deadline)
-    unfolding backupAfter largestBackup loadOf
-    two-found first b m p l =
-        let k = all-meant (recordAt (t .records) i .priority) m in
-        let q = p ∙ ap₂ (λ (x y : ℕ). loadOf (tasksOf t interval []) (record { base = x; level = recordAt (t .records) i .priority; omitted = i; backup = y; paid = 0 }) first) b k in
-        ap₂ (λ (d : Demand) (n : ℕ). leastWithin (demandOf (tasksOf t interval []) d) first n) (λ j. record { base = b j; level = recordAt (t .records) i .priority; omitted = i; backup = k j; paid = q j }) l
-        ∙ least-agree _ (stageTwo tasks i first) first _ (λ L low. faultless t interval choice (demandTwo tasks i first) L ∙ two-tied tasks i first L low)
+  pub two-found : (first : ℕ) {base backup paid limit : ℕ} → base ≡ first + recordAt (t .records) i .cost → backup ≡ largestBackup (tasksOf t 0 choice) everyone (recordAt (t .records) i .priority)
+      → paid ≡ loadOf (tasksOf t interval []) (record { base = base; level = recordAt (t .records) i .priority; omitted = i; backup = backup; paid = 0 }) first → limit ≡ recordAt (t .records) i .deadline
+      → leastWithin (demandOf (tasksOf t interval []) (record { base = base; level = recordAt (t .records) i .priority; omitted = i; backup = backup; paid = paid })) first limit
+      ≡ leastWithin (stageTwo tasks i first) first (recordAt (t .records) i .deadline)
+  unfolding backupAfter largestBackup loadOf
+  two-found first b m p l =
+      let q = p ∙ ap₂ (λ (x y : ℕ). loadOf (tasksOf t interval []) (record { base = x; level = recordAt (t .records) i .priority; omitted = i; backup = y; paid = 0 }) first) b m in
+      ap₂ (λ (d : Demand) (n : ℕ). leastWithin (demandOf (tasksOf t interval []) d) first n) (λ j. record { base = b j; level = recordAt (t .records) i .priority; omitted = i; backup = m j; paid = q j }) l
+      ∙ least-agree _ (stageTwo tasks i first) first _ (λ L low. faultless t interval choice (demandTwo tasks i first) L ∙ two-tied tasks i first L low)

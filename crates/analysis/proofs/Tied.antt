@@ -1,5 +1,5 @@
 -- The one demand that the code computes, tied to the three equations; and it rises with the length. Assumes nothing.
-use Prim.Native.Nat.{ℕ, zero, suc, _+_, _-_, _*_, _≤_}
+use Prim.Native.Nat.{ℕ, zero, suc, _+_, _-_, _*_, _≤_, _<_, max}
 use mathlib.Core.Path.{_≡_, refl, ap, ap₂, subst₂, _∙_}
 use mathlib.Core.Bool.{Bool, true, false, cond, not, _&&_}
 use native.Mathlib.Nat.{le-refl, le-of-eq, add-le-add, mul-le-mul-right, suc-mul, mul-comm, mul-sub}
@@ -11,11 +11,11 @@ use Rattle.sheet.specs.declared.Record.{Record}
 use Rattle.analysis.specs.declared.Demand.{Demand}
 use Rattle.analysis.specs.Rounding.{up}
 use Rattle.analysis.specs.Tasks.{Tasks}
-use Rattle.analysis.specs.Backups.{others, everyone, largestBackup, backupElsewhere, backupFromFault, backupAfter}
+use Rattle.analysis.specs.Backups.{others, everyone, backupOf, largestBackup, backupElsewhere, backupFromFault, backupAfter}
 use Rattle.analysis.specs.Equations.{struckElsewhere, stageOne, stageTwo}
 use Rattle.analysis.specs.Demand.{runOf, loadOf, demandOf}
 use Rattle.analysis.proofs.Rounding.{up-rises, up-some}
-use Rattle.analysis.proofs.Totalled.{sum-agree, most-agree, sum-rises, sum-less}
+use Rattle.analysis.proofs.Totalled.{sum-agree, most-apart, sum-rises, sum-less}
 
 -- the run of one record rises with the length
 run-rises : (r : Record) (isMeant : Bool) (level : ℕ) {a b : ℕ} → a ≤ b → runOf r isMeant level a ≤ runOf r isMeant level b
@@ -100,7 +100,7 @@ two-tied s i L1 L h =
     kept : (k : ℕ) → cond (above k) (up L1 (s .at k .period) * s .at k .cost) 0 ≤ cond (above k) (up L (s .at k .period) * s .at k .cost) 0
     kept k = subst₂ _≤_ (own-run s i L1 k) (own-run s i L k) (run-rises (s .at k) (others i k) (s .at i .priority) h)
 
--- every record is another than one past the count, so leaving that one out leaves none out
-pub nobody-out : (s : Tasks) (level : ℕ) → s .count ≤ 8 → largestBackup s (others 8) level ≡ largestBackup s everyone level
-unfolding largestBackup others everyone
-nobody-out s level few = most-agree (s .count) (λ k below. rw (ne-eqb k 8 (λ e. omega arith)) refl)
+-- the record at a place and the others are all records
+pub own-and-others : (s : Tasks) (i level : ℕ) → i < s .count → max (largestBackup s (others i) level) (backupOf (s .at i) true (s .fault i) level) ≡ largestBackup s everyone level
+unfolding largestBackup others everyone backupOf
+own-and-others s i level below = most-apart i (s .count) below (rw (eq-eqb i i refl) refl) (λ k h apart. rw (ne-eqb k i apart) refl)

@@ -1,7 +1,8 @@
 -- Sums and largest values over the places below a count, for every count. Assumes nothing.
 use Prim.Native.Nat.{ℕ, zero, suc, _+_, _-_, _≤_, _<_, max}
-use mathlib.Core.Path.{_≡_, refl, ap₂}
-use native.Mathlib.Nat.{le-refl, add-le-add}
+use mathlib.Core.Path.{_≡_, refl, ap, ap₂}
+use mathlib.Core.Logic.{⊎-elim}
+use native.Mathlib.Nat.{le-refl, add-le-add, eq-or-lt-of-le, le-of-suc-le-suc}
 use native.Mathlib.Numerals.{add-one}
 use native.Mathlib.Omega.{arith}
 use Rattle.analysis.specs.Totals.{sumBelow, mostBelow}
@@ -39,3 +40,12 @@ module _ {f g : ℕ → ℕ} where
       let before = sum-less n (λ k h. each k (omega arith)) in
       let more = sum-rises {f = g} {g = f} n (λ k h. each k (omega arith)) in
       omega (arith, before, more, each n (omega arith))
+
+-- the largest is that of one place and of the others, where f is g but at that place, and g is 0 there
+pub most-apart : {f g : ℕ → ℕ} (i n : ℕ) → i < n → g i ≡ 0 → ((k : ℕ) → k < n → (k ≡ i → ⊥) → f k ≡ g k) → max (mostBelow g n) (f i) ≡ mostBelow f n
+unfolding mostBelow
+most-apart i zero below out same = omega arith
+most-apart {f} {g} i (suc n) below out same =
+    ⊎-elim (λ e. omega (arith, most-agree {f = f} {g = g} n (λ k h. same k (omega arith) (λ z. omega arith)), ap f e, ap g e))
+    (λ h. omega (arith, most-apart {f = f} {g = g} i n h out (λ k b. same k (omega arith)), same n (omega arith) (λ z. omega arith)))
+    (eq-or-lt-of-le (le-of-suc-le-suc below))

@@ -24,8 +24,7 @@ fn elsewhere(table: Table, interval: u16, choice: [u8; 8], place: usize) -> u64
     requires { ⌜ (tableRefusal table ≡ 0) × (1 ≤ interval) × (place < table .count) ⌝ }
     ensures { λ r. ⌜ (r ≡ timeElsewhere (tasksOf table interval choice) place) × (r < 65536) ⌝ }
 {
-    let records = table.records;
-    let task = records[place];
+    let task = table.records[place];
     let sought = Demand {
         base: workload::wide(task.cost),
         level: task.priority,
@@ -41,10 +40,9 @@ fn length_one(table: Table, interval: u16, choice: [u8; 8], place: usize) -> u64
     requires { ⌜ (tableRefusal table ≡ 0) × (1 ≤ interval) × (place < table .count) ⌝ }
     ensures { λ r. ⌜ (r ≡ lengthOne (tasksOf table interval choice) place) × (r < 65536) ⌝ }
 {
-    let records = table.records;
-    let task = records[place];
+    let task = table.records[place];
     let fault = choice[place];
-    let backup = workload::largest(table, choice, 8, fault);
+    let backup = workload::largest_of_all(table, choice, place, fault);
     let sought = Demand {
         base: workload::wide(task.backup),
         level: fault,
@@ -60,10 +58,9 @@ fn stage_two(table: Table, interval: u16, choice: [u8; 8], place: usize, first: 
     requires { ⌜ (tableRefusal table ≡ 0) × (1 ≤ interval) × (place < table .count) × (1 ≤ first) × (first < 65536) ⌝ }
     ensures { λ r. ⌜ (r ≡ leastWithin (stageTwo (tasksOf table interval choice) place first) first (recordAt (table .records) place .deadline)) × (r < 65536) ⌝ }
 {
-    let records = table.records;
-    let task = records[place];
+    let task = table.records[place];
     let level = task.priority;
-    let backup = workload::largest(table, choice, 8, level);
+    let backup = workload::largest_of_all(table, choice, place, level);
     let unpaid = Demand {
         base: first + workload::wide(task.cost),
         level,
@@ -162,8 +159,7 @@ pub fn entry(table: Table, choice: [u8; 8], place: usize) -> Entry
     requires { ⌜ (tableRefusal table ≡ 0) × (place < table .count) ⌝ }
     ensures { λ r. ⌜ r ≡ entryOf (tasksOf table (table .interval) choice) place ⌝ }
 {
-    let records = table.records;
-    let task = records[place];
+    let task = table.records[place];
     let outcome = outcome(response(table, table.interval, choice, place));
     Entry {
         deadline: task.deadline,

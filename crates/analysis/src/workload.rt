@@ -5,7 +5,7 @@ ghost use mathlib.Core.List.{[]};
 ghost use Rattle.sheet.specs.Rules.{tableRefusal};
 ghost use Rattle.analysis.specs.Rounding.{up};
 ghost use Rattle.analysis.specs.Tasks.{tasksOf};
-ghost use Rattle.analysis.specs.Backups.{others, largestBackup, backupOf};
+ghost use Rattle.analysis.specs.Backups.{others, everyone, largestBackup, backupOf};
 ghost use Rattle.analysis.specs.Demand.{runOf, loadOf, demandOf};
 use crate::Demand;
 use sheet::Record;
@@ -51,17 +51,28 @@ pub fn largest(table: Table, choice: [u8; 8], omitted: usize, level: u8) -> u16
     ensures { λ r. ⌜ r ≡ largestBackup (tasksOf table 0 choice) (others omitted) level ⌝ }
 {
     let count = table.count as usize;
-    let records = table.records;
     let mut most: u16 = 0;
     let mut place: usize = 0;
     while place < count {
         most = larger(
             most,
-            backup_at(records[place], place != omitted, choice[place], level),
+            backup_at(table.records[place], place != omitted, choice[place], level),
         );
         place += 1;
     }
     most
+}
+
+// The largest backup at or above the level among all records: the one at a place and the others.
+pub fn largest_of_all(table: Table, choice: [u8; 8], place: usize, level: u8) -> u16
+    requires { ⌜ (table .count ≤ 8) × (place < table .count) ⌝ }
+    ensures { λ r. ⌜ r ≡ largestBackup (tasksOf table 0 choice) everyone level ⌝ }
+{
+    let task = table.records[place];
+    larger(
+        largest(table, choice, place, level),
+        backup_at(task, true, choice[place], level),
+    )
 }
 
 // The time that a record runs in a length, if it is meant and its priority is above the level, else 0.
@@ -83,13 +94,12 @@ pub fn load(table: Table, interval: u16, demand: Demand, length: u64) -> u64
     ensures { λ r. ⌜ (r ≡ loadOf (tasksOf table interval []) demand length) × (r ≤ 38653526025) ⌝ }
 {
     let count = table.count as usize;
-    let records = table.records;
     let omitted = demand.omitted;
     let level = demand.level;
     let mut total = up(length, wide(interval)) * wide(demand.backup);
     let mut place: usize = 0;
     while place < count {
-        total += run_of(records[place], place != omitted, level, length);
+        total += run_of(table.records[place], place != omitted, level, length);
         place += 1;
     }
     total

@@ -1,10 +1,10 @@
 -- Places with n different priorities from 1 to n have n! choices: the product of the priorities counts them.
 -- Assumes nothing.
-use Prim.Native.Nat.{ℕ, zero, suc, _*_, _≤_, _<_, suc-le-suc}
+use Prim.Native.Nat.{ℕ, zero, suc, _+_, _*_, _≤_, _<_, suc-le-suc}
 use mathlib.Core.Path.{_≡_, refl, sym, ap, ap₂, _∙_}
 use mathlib.Core.Bool.{Bool, true, false, cond, or-false}
 use mathlib.Core.List.{List, [], _∷_}
-use native.Mathlib.Nat.{not-suc-le-zero, le-of-eq, mul-left-comm, zero-mul, one-mul, suc-mul, add-comm}
+use native.Mathlib.Nat.{zero-add, suc-add, le-refl, le-trans, not-suc-le-zero, le-of-eq, mul-left-comm, zero-mul, one-mul, suc-mul, add-comm}
 use native.Mathlib.Decide.{ℕ-discrete, decLt}
 use native.Mathlib.Omega.{arith}
 use borrow.Author.Tests.{eq-eqb, ne-eqb, lt-ltb, le-ltb}
@@ -19,6 +19,12 @@ use Rattle.choices.specs.Choices.{inRow, entriesFor, spread, choicesOf}
 unfoldable pub factorial : ℕ → ℕ
 factorial zero = 1
 factorial (suc n) = suc n * factorial n
+
+-- it rises with n
+pub factorial-rises : (d n : ℕ) → factorial n ≤ factorial (d + n)
+unfolding factorial
+factorial-rises zero n = rw zero-add (le-refl (factorial n))
+factorial-rises (suc d) n = rw suc-add (le-trans (factorial-rises d n) (omega (arith, suc-mul (d + n) (factorial (d + n)))))
 
 -- no number at a place below n is that of an earlier place
 abbrev Fresh : (ℕ → ℕ) → ℕ → Type 0

@@ -1,6 +1,6 @@
 -- The demands on the walk and the list in the request's words, about the definitions.
 -- Assumes nothing.
-use Prim.Native.Nat.{ℕ, zero, suc, _*_, _≤_, _<_}
+use Prim.Native.Nat.{ℕ, zero, suc, _+_, _-_, _*_, _≤_, _<_}
 use mathlib.Core.Path.{_≡_, refl, sym, ap, _∙_, subst}
 use mathlib.Core.Bool.{Bool, true, false, true≢false}
 use mathlib.Core.List.{List, [], _∷_, List·Memᴰ as In, List·Memᴰ·head as here, List·Memᴰ·cases-cons as cases-cons, List·Memᴰ·not-nil as not-nil}
@@ -18,10 +18,10 @@ use Rattle.choices.specs.declared.Stepped.{Stepped}
 use Rattle.choices.specs.Choices.{levelsOf, choicesOf, passingOf}
 use Rattle.choices.specs.Order.{before, allAllowed, afterOf}
 use Rattle.choices.specs.Answers.{startWalk, walkRefusal, arriveAt, stepAnswer, entryBytes, listRefusal, listLeaves}
-use Rattle.choices.proofs.Sifted.{sift-none}
+use Rattle.choices.proofs.Sifted.{sift-none, sift-fewer}
 use Rattle.choices.proofs.Members.{sift-members, choices-sound, choices-complete}
 use Rattle.choices.proofs.Advancing.{passesWith, good-start}
-use Rattle.choices.proofs.Counted.{factorial, filled-factorial}
+use Rattle.choices.proofs.Counted.{factorial, factorial-rises, filled-factorial}
 use Rattle.choices.proofs.Ordered.{before-irreflexive, ascending-places}
 use Rattle.choices.proofs.Listed.{from-start, passing-ascending, start-allowed, next-listed}
 use Rattle.choices.proofs.Entries.{entry-at}
@@ -48,6 +48,15 @@ choices-count t good =
     let table = good-table t good in
     let each = good-at (t .count) (recordAt (t .records)) (table .records) in
     filled-factorial (λ k. recordAt (t .records) k .priority) (t .count) (table .count .1) (λ k h. each k h .priority) (λ k h. each k h .fresh)
+
+-- so no list is longer than the choices of eight records
+pub listed-few : (t : Table) → tableRefusal t ≡ 0 → length (passingOf t) ≤ 40320
+unfolding passingOf factorial
+listed-few t good =
+    let few = good-table t good .count .1 in
+    let rises = factorial-rises (8 - t .count) (t .count) in
+    let eight : 8 - t .count + t .count ≡ 8 = omega arith in
+    omega (arith, sift-fewer (passesWith t) (choicesOf (levelsOf t)), choices-count t good, subst (λ (n : ℕ). factorial (t .count) ≤ factorial n) eight rises)
 
 -- c is the first listed choice after a start: it is listed, comes after the start, and every other listed one after the start comes after it
 pub record FirstAfter (t : Table) (start c : List ℕ) : Type 0 where

@@ -1,8 +1,10 @@
 -- What a sift keeps: it commutes with another sift, and goes through a join and a map. Assumes nothing.
-use Prim.Native.Nat.{ℕ}
+use Prim.Native.Nat.{ℕ, suc, _≤_, suc-le-suc}
 use mathlib.Core.Path.{_≡_, refl, sym, ap, _∙_}
 use mathlib.Core.Bool.{Bool, true, false, cond}
 use mathlib.Core.List.{List, [], _∷_, _++_, map, List·Memᴰ as In, List·Memᴰ·head as here, List·Memᴰ·tail as there}
+use native.Mathlib.Omega.{arith}
+use lib.ListN.{length}
 use Rattle.choices.specs.Choices.{sift}
 use Rattle.choices.specs.Order.{before, afterOf}
 
@@ -16,6 +18,16 @@ module _ {A : Type 0} where
   pub sift-drops : (test : A → Bool) (a : A) (l : List A) → test a ≡ false → sift test (a ∷ l) ≡ sift test l
   unfolding sift
   sift-drops test a l e = rw e
+
+  -- no more are kept than there are
+  pub sift-fewer : (test : A → Bool) (l : List A) → length (sift test l) ≤ length l
+  unfolding sift
+  sift-fewer test [] = omega arith
+  sift-fewer test (a ∷ l) = go (test a) (sift-fewer test l)
+    where
+      go : (b : Bool) → length (sift test l) ≤ length l → length (cond b (a ∷ sift test l) (sift test l)) ≤ suc (length l)
+      go true fewer = suc-le-suc fewer
+      go false fewer = omega arith
 
   -- a test that every member passes keeps the list
   pub sift-all : (test : A → Bool) (l : List A) → ((a : A) → In a l → test a ≡ true) → sift test l ≡ l

@@ -11,16 +11,16 @@ use Rattle.analysis.proofs.response.elsewhere.Tie as tie
 mul-task : tie.Need-mul-task
 mul-task c = search needs
 
-array-copy-out-task : tie.Need-array-copy-out-task
-array-copy-out-task c =
-    omega (arith, good-table (c .before .args .table) (c .before .pre .0) .count .1)
+element-copy-out-task : tie.Need-element-copy-out-task
+element-copy-out-task c =
+    omega (arith, good-table (c .args .t1) (c .pre .0) .count .1)
 
 wide-requires : tie.Need-wide-requires
 wide-requires c κs = search needs
 
 largest-requires : tie.Need-largest-requires
 largest-requires c κs =
-    good-table (c .before .before .before .args .table) (c .before .before .before .pre .0) .count .1
+    good-table (c .before .before .args .t1) (c .before .before .pre .0) .count .1
 
 wide-requires-2 : tie.Need-wide-requires-2
 wide-requires-2 c κs = search needs
@@ -32,9 +32,9 @@ climb-requires c κs =
 returns : tie.Need-returns
 unfolding recordAt
 returns c =
-    let given = c .before .before .before .before .before .before in (
+    let given = c .before .before .before .before .before in (
       c .climb .ensures .0
-          ∙ elsewhere-found (given .args .table) (given .args .interval) (given .args .choice) (given .args .place) (c .before .before .before .wide .ensures .0) (c .before .before .largest .ensures) (c .before .wide2 .ensures .0),
+          ∙ elsewhere-found (given .args .t1) (given .args .interval) (given .args .choice) (given .args .place) (c .before .before .before .wide .ensures .0) (c .before .before .largest .ensures) (c .before .wide2 .ensures .0),
       c .climb .ensures .1,
     )
 
@@ -43,7 +43,7 @@ elsewhere-spec =
     tie.close
     (tie.spec
     mul-task
-    array-copy-out-task
+    element-copy-out-task
     wide-requires
     largest-requires
     wide-requires-2

@@ -12,14 +12,14 @@ use Rattle.analysis.proofs.response.entry.Tie as tie
 mul-task : tie.Need-mul-task
 mul-task c = search needs
 
-array-copy-out-task : tie.Need-array-copy-out-task
-array-copy-out-task c =
-    omega (arith, good-table (c .before .args .table) (c .before .pre .0) .count .1)
+element-copy-out-task : tie.Need-element-copy-out-task
+element-copy-out-task c =
+    omega (arith, good-table (c .args .t1) (c .pre .0) .count .1)
 
 response-requires : tie.Need-response-requires
 response-requires c κs =
-    let given = c .before .before in
-    let some = good-table (given .args .table) (given .pre .0) .interval in
+    let given = c .before in
+    let some = good-table (given .args .t1) (given .pre .0) .interval in
     (given .pre .0, omega arith, given .pre .1)
 
 outcome-requires : tie.Need-outcome-requires
@@ -28,9 +28,9 @@ outcome-requires c κs = search needs
 returns : tie.Need-returns
 unfolding entryOf recordAt
 returns c =
-    let given = c .before .before .before .before in
-    ap (λ (o : Outcome). record { deadline = recordAt (given .args .table .records) (given .args .place) .deadline; outcome = o }) (c .outcome .ensures ∙ ap outcomeOf (c .before .response .ensures))
+    let given = c .before .before .before in
+    ap (λ (o : Outcome). record { deadline = recordAt (given .args .t1 .records) (given .args .place) .deadline; outcome = o }) (c .outcome .ensures ∙ ap outcomeOf (c .before .response .ensures))
 
 pub entry-spec : {M : Type 1} → statement M
 entry-spec =
-    tie.close (tie.spec mul-task array-copy-out-task response-requires outcome-requires returns)
+    tie.close (tie.spec mul-task element-copy-out-task response-requires outcome-requires returns)

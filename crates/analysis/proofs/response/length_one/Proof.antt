@@ -11,17 +11,17 @@ use Rattle.analysis.proofs.response.length_one.Tie as tie
 mul-task : tie.Need-mul-task
 mul-task c = search needs
 
-array-copy-out-task : tie.Need-array-copy-out-task
-array-copy-out-task c =
-    omega (arith, good-table (c .before .args .table) (c .before .pre .0) .count .1)
+element-copy-out-task : tie.Need-element-copy-out-task
+element-copy-out-task c =
+    omega (arith, good-table (c .args .t1) (c .pre .0) .count .1)
 
 array-read-fault : tie.Need-array-read-fault
 array-read-fault c =
-    omega (arith, good-table (c .before .before .args .table) (c .before .before .pre .0) .count .1)
+    omega (arith, good-table (c .before .args .t1) (c .before .pre .0) .count .1)
 
-largest-requires : tie.Need-largest-requires
-largest-requires c κs =
-    good-table (c .before .before .args .table) (c .before .before .pre .0) .count .1
+largest-of-all-requires : tie.Need-largest-of-all-requires
+largest-of-all-requires c κs =
+    (good-table (c .before .args .t1) (c .before .pre .0) .count .1, search needs)
 
 wide-requires : tie.Need-wide-requires
 wide-requires c κs = search needs
@@ -38,10 +38,9 @@ climb-requires c κs = search needs
 returns : tie.Need-returns
 unfolding recordAt
 returns c =
-    let given = c .before .before .before .before .before .before .before in
-    let few = good-table (given .args .table) (given .pre .0) .count .1 in (
+    let given = c .before .before .before .before .before .before in (
       c .climb .ensures .0
-          ∙ one-found (given .args .table) (given .args .interval) (given .args .t3) (given .args .place) few (given .pre .1) (c .before .before .before .wide .ensures .0) (c .before .before .before .before .largest .ensures) (c .before .before .wide2 .ensures .0) (c .before .wide3 .ensures .0),
+          ∙ one-found (given .args .t1) (given .args .interval) (given .args .t3) (given .args .place) (given .pre .1) (c .before .before .before .wide .ensures .0) (c .before .before .before .before .largest-of-all .ensures) (c .before .before .wide2 .ensures .0) (c .before .wide3 .ensures .0),
       c .climb .ensures .1,
     )
 
@@ -50,9 +49,9 @@ length-one-spec =
     tie.close
     (tie.spec
     mul-task
-    array-copy-out-task
+    element-copy-out-task
     array-read-fault
-    largest-requires
+    largest-of-all-requires
     wide-requires
     wide-requires-2
     wide-requires-3

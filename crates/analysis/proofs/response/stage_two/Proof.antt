@@ -12,13 +12,13 @@ use Rattle.analysis.proofs.response.stage_two.Tie as tie
 mul-task : tie.Need-mul-task
 mul-task c = search needs
 
-array-copy-out-task : tie.Need-array-copy-out-task
-array-copy-out-task c =
-    omega (arith, good-table (c .before .args .table) (c .before .pre .0) .count .1)
+element-copy-out-task : tie.Need-element-copy-out-task
+element-copy-out-task c =
+    omega (arith, good-table (c .args .t1) (c .pre .0) .count .1)
 
-largest-requires : tie.Need-largest-requires
-largest-requires c κs =
-    good-table (c .before .before .args .table) (c .before .before .pre .0) .count .1
+largest-of-all-requires : tie.Need-largest-of-all-requires
+largest-of-all-requires c κs =
+    (good-table (c .before .args .t1) (c .before .pre .0) .count .1, search needs)
 
 wide-requires : tie.Need-wide-requires
 wide-requires c κs = search needs
@@ -38,10 +38,9 @@ climb-requires c κs = search needs
 returns : tie.Need-returns
 unfolding recordAt
 returns c =
-    let given = c .before .before .before .before .before .before .before in
-    let few = good-table (given .args .table) (given .pre .0) .count .1 in (
+    let given = c .before .before .before .before .before .before in (
       c .climb .ensures .0
-          ∙ two-found (given .args .table) (given .args .interval) (given .args .choice) (given .args .place) few (given .args .first) (ap (λ (n : ℕ). given .args .first + n) (c .before .before .before .wide .ensures .0)) (c .before .before .before .before .largest .ensures) (c .before .before .load .ensures .0) (c .before .wide2 .ensures .0),
+          ∙ two-found (given .args .t1) (given .args .interval) (given .args .choice) (given .args .place) (given .args .first) (ap (λ (n : ℕ). given .args .first + n) (c .before .before .before .wide .ensures .0)) (c .before .before .before .before .largest-of-all .ensures) (c .before .before .load .ensures .0) (c .before .wide2 .ensures .0),
       c .climb .ensures .1,
     )
 
@@ -50,8 +49,8 @@ stage-two-spec =
     tie.close
     (tie.spec
     mul-task
-    array-copy-out-task
-    largest-requires
+    element-copy-out-task
+    largest-of-all-requires
     wide-requires
     add-climb
     load-requires

@@ -18,10 +18,10 @@ abbrev backups : List Record → List ℕ → ℕ → ℕ → ℕ → ℕ
 backups records choice omitted level k = backupOf (recordAt records k) (others omitted k) (getD choice k 0) level
 
 abbrev Inv-loop : tie.InvT-loop
-Inv-loop omitted level choice count records most₀ place₀ most place = (place ≤ count) × (most ≡ mostBelow (backups records choice omitted level) place)
+Inv-loop omitted level table choice count most₀ place₀ most place = (place ≤ count) × (most ≡ mostBelow (backups (table .records) choice omitted level) place)
 
 abbrev μ-loop : tie.MeasureT-loop
-μ-loop omitted level choice count records most₀ place₀ most place = count - place
+μ-loop omitted level table choice count most₀ place₀ most place = count - place
 
 cast-count : tie.Need-cast-count Inv-loop μ-loop
 cast-count c = search needs
@@ -33,8 +33,8 @@ loop-holds c = search needs
 mul-backup-at : tie.Need-mul-backup-at Inv-loop μ-loop
 mul-backup-at c = search needs
 
-array-copy-out-backup-at : tie.Need-array-copy-out-backup-at Inv-loop μ-loop
-array-copy-out-backup-at c =
+element-copy-out-backup-at : tie.Need-element-copy-out-backup-at Inv-loop μ-loop
+element-copy-out-backup-at c =
     search needs
 
 array-read-backup-at : tie.Need-array-read-backup-at Inv-loop μ-loop
@@ -58,17 +58,17 @@ unfolding recordAt others
 loop-again c =
     let turn = c .before .before .before in
     let at = turn .before .loop in
-    let given = turn .before .before .before .before in (
+    let given = turn .before .before in (
       search needs,
-      c .larger .ensures ∙ ap₂ max (at .inv .1) (c .before .backup-at .ensures) ∙ sym (most-more (backups (given .args .table .records) (given .args .t2) (given .args .omitted) (given .args .level)) (at .place)),
+      c .larger .ensures ∙ ap₂ max (at .inv .1) (c .before .backup-at .ensures) ∙ sym (most-more (backups (given .args .t1 .records) (given .args .t2) (given .args .omitted) (given .args .level)) (at .place)),
     )
 
 returns : tie.Need-returns Inv-loop μ-loop
 unfolding largestBackup
 returns c =
-    let given = c .before .before .before .before in
-    let all : c .before .loop .place ≡ given .args .table .count = omega arith in
-    c .before .loop .inv .1 ∙ ap (mostBelow (backups (given .args .table .records) (given .args .t2) (given .args .omitted) (given .args .level))) all
+    let given = c .before .before in
+    let all : c .before .loop .place ≡ given .args .t1 .count = omega arith in
+    c .before .loop .inv .1 ∙ ap (mostBelow (backups (given .args .t1 .records) (given .args .t2) (given .args .omitted) (given .args .level))) all
 
 pub largest-spec : {M : Type 1} → statement M
 largest-spec =
@@ -79,7 +79,7 @@ largest-spec =
     cast-count
     loop-holds
     mul-backup-at
-    array-copy-out-backup-at
+    element-copy-out-backup-at
     array-read-backup-at
     backup-at-requires
     larger-requires

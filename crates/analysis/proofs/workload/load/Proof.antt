@@ -22,10 +22,10 @@ abbrev runs : List Record → ℕ → ℕ → ℕ → ℕ → ℕ
 runs records omitted level length k = runOf (recordAt records k) (others omitted k) level length
 
 abbrev Inv-loop : tie.InvT-loop
-Inv-loop interval length count records omitted level total₀ place₀ total place = (place ≤ count) × (total ≡ sumBelow (runs records omitted level length) place + total₀) × (total ≤ 4294836225 + place * 4294836225)
+Inv-loop interval length table count omitted level total₀ place₀ total place = (place ≤ count) × (total ≡ sumBelow (runs (table .records) omitted level length) place + total₀) × (total ≤ 4294836225 + place * 4294836225)
 
 abbrev μ-loop : tie.MeasureT-loop
-μ-loop interval length count records omitted level total₀ place₀ total place = count - place
+μ-loop interval length table count omitted level total₀ place₀ total place = count - place
 
 cast-count : tie.Need-cast-count Inv-loop μ-loop
 cast-count c = search needs
@@ -52,24 +52,24 @@ loop-holds c =
 mul-run-of : tie.Need-mul-run-of Inv-loop μ-loop
 mul-run-of c = search needs
 
-array-copy-out-run-of : tie.Need-array-copy-out-run-of Inv-loop μ-loop
-array-copy-out-run-of c =
-    let given = c .before .before .before .before .before .before .before in
-    omega (arith, good-table (given .args .table) (given .pre .0) .count .1)
+element-copy-out-run-of : tie.Need-element-copy-out-run-of Inv-loop μ-loop
+element-copy-out-run-of c =
+    let given = c .before .before .before .before .before in
+    omega (arith, good-table (given .args .t1) (given .pre .0) .count .1)
 
 run-of-requires : tie.Need-run-of-requires Inv-loop μ-loop
 unfolding recordAt
 run-of-requires c κs =
     let turn = c .before in
-    let given = turn .before .before .before .before .before .before .before in
-    let good = good-table (given .args .table) (given .pre .0) in
-    let task = good-at (given .args .table .count) (recordAt (given .args .table .records)) (good .records) (turn .before .loop .place) (turn .loop-test .taken) in
+    let given = turn .before .before .before .before .before in
+    let good = good-table (given .args .t1) (given .pre .0) in
+    let task = good-at (given .args .t1 .count) (recordAt (given .args .t1 .records)) (good .records) (turn .before .loop .place) (turn .loop-test .taken) in
     (given .pre .2, omega arith)
 
 add-total : tie.Need-add-total Inv-loop μ-loop
 add-total c =
-    let given = c .before .before .before .before .before .before .before .before .before in
-    omega (arith, good-table (given .args .table) (given .pre .0) .count .1)
+    let given = c .before .before .before .before .before .before .before in
+    omega (arith, good-table (given .args .t1) (given .pre .0) .count .1)
 
 add-place : tie.Need-add-place Inv-loop μ-loop
 add-place c = search needs
@@ -81,8 +81,8 @@ loop-again : tie.Need-loop-again Inv-loop μ-loop
 unfolding recordAt others
 loop-again c =
     let at = c .before .before .before .loop in
-    let given = c .before .before .before .before .before .before .before .before .before in
-    let each = runs (given .args .table .records) (given .args .demand .omitted) (given .args .demand .level) (given .args .length) in
+    let given = c .before .before .before .before .before .before .before in
+    let each = runs (given .args .t1 .records) (given .args .demand .omitted) (given .args .demand .level) (given .args .length) in
     let more = sum-more each (at .place) in
     let grown : at .total + c .run-of .result ≡ (sumBelow each (at .place) + c .before .before .before .before .before .up .result * c .before .before .before .before .wide2 .result) + each (at .place) = ap₂ _+_ (at .inv .1) (c .run-of .ensures .0) in
     (search needs, omega arith, omega arith)
@@ -90,10 +90,10 @@ loop-again c =
 returns : tie.Need-returns Inv-loop μ-loop
 unfolding loadOf
 returns c =
-    let given = c .before .before .before .before .before .before .before in
-    let few = good-table (given .args .table) (given .pre .0) .count .1 in
-    let each = runs (given .args .table .records) (given .args .demand .omitted) (given .args .demand .level) (given .args .length) in
-    let all : c .before .loop .place ≡ given .args .table .count = omega arith in
+    let given = c .before .before .before .before .before in
+    let few = good-table (given .args .t1) (given .pre .0) .count .1 in
+    let each = runs (given .args .t1 .records) (given .args .demand .omitted) (given .args .demand .level) (given .args .length) in
+    let all : c .before .loop .place ≡ given .args .t1 .count = omega arith in
     let faults = c .before .before .before in (
       c .before .loop .inv .1
           ∙ ap₂ _+_ (ap (sumBelow each) all) (ap₂ _*_ (faults .up .ensures .0 ∙ ap (up (given .args .length)) (faults .before .wide .ensures .0)) (c .before .before .wide2 .ensures .0)),
@@ -113,7 +113,7 @@ load-spec =
     mul-total
     loop-holds
     mul-run-of
-    array-copy-out-run-of
+    element-copy-out-run-of
     run-of-requires
     add-total
     add-place

@@ -5,6 +5,7 @@ use native.Mathlib.Omega.{arith}
 use lib.ListN.{length}
 use mathlib.Core.List.{List}
 use borrow.Author.Tests.{lt-leb, le-leb}
+use Rattle.choices.proofs.Demands.{listed-few}
 use Rattle.choices.proofs.Listed.{found-there, found-none, from-start, start-allowed, next-listed}
 use Rattle.choices.specs.Choices.{passingOf}
 use Rattle.choices.specs.Order.{afterOf}
@@ -19,19 +20,23 @@ Inv-loop table room walk₀ left₀ walk left = (walkRefusal table walk ≡ 0) �
 abbrev μ-loop : tie.MeasureT-loop
 μ-loop table room walk₀ left₀ walk left = length (afterOf walk (passingOf table))
 
+returns : tie.Need-returns Inv-loop μ-loop
+returns c =
+    sym (le-leb (length (passingOf (c .before .args .table))) (c .before .args .room) (omega (arith, listed-few (c .before .args .table) (c .before .pre))))
+
 loop-holds : tie.Need-loop-holds Inv-loop μ-loop
 loop-holds c =
-    (start-allowed (c .args .table) (c .pre), ap (λ (l : List (List ℕ)). length l + c .args .room) (from-start (c .args .table) (c .pre)))
+    (start-allowed (c .before .args .table) (c .before .pre), ap (λ (l : List (List ℕ)). length l + c .before .args .room) (from-start (c .before .args .table) (c .before .pre)))
 
 advance-requires : tie.Need-advance-requires Inv-loop μ-loop
 advance-requires c κs =
     c .loop .inv .0
 
-returns : tie.Need-returns Inv-loop μ-loop
-returns c =
-    let given = c .before .before .before .before in
+returns-2 : tie.Need-returns-2 Inv-loop μ-loop
+returns-2 c =
+    let given = c .before .before .before .before .before in
     let at = c .before .before .before .loop in
-    let listed = found-there _ (afterOf (at .walk) (passingOf (given .args .table))) _ (c .before .before .advance .ensures) (c .before .if1 .taken) in
+    let listed = found-there _ (afterOf (at .walk) (passingOf (given .args .table))) _ (c .before .before .advance .ensures) (c .before .if2 .taken) in
     let some = ap length listed in
     sym (lt-leb (length (passingOf (given .args .table))) (given .args .room) (omega arith))
 
@@ -40,27 +45,27 @@ sub-left c = search needs
 
 loop-less : tie.Need-loop-less Inv-loop μ-loop
 loop-less c =
-    let given = c .before .before .before .before .before in
+    let given = c .before .before .before .before .before .before in
     let at = c .before .before .before .before .loop in
-    let listed = found-there _ (afterOf (at .walk) (passingOf (given .args .table))) _ (c .before .before .before .advance .ensures) (c .before .before .if1 .taken) in
+    let listed = found-there _ (afterOf (at .walk) (passingOf (given .args .table))) _ (c .before .before .before .advance .ensures) (c .before .before .if2 .taken) in
     let next = next-listed (given .args .table) (given .pre) (at .walk) _ _ listed in
     let fewer = ap length listed in
     omega (arith, ap length (next .after))
 
 loop-again : tie.Need-loop-again Inv-loop μ-loop
 loop-again c =
-    let given = c .before .before .before .before .before in
+    let given = c .before .before .before .before .before .before in
     let at = c .before .before .before .before .loop in
-    let listed = found-there _ (afterOf (at .walk) (passingOf (given .args .table))) _ (c .before .before .before .advance .ensures) (c .before .before .if1 .taken) in
+    let listed = found-there _ (afterOf (at .walk) (passingOf (given .args .table))) _ (c .before .before .before .advance .ensures) (c .before .before .if2 .taken) in
     let next = next-listed (given .args .table) (given .pre) (at .walk) _ _ listed in
     let fewer = ap length listed in
     (next .going-on, omega (arith, ap length (next .after)))
 
-returns-2 : tie.Need-returns-2 Inv-loop μ-loop
-returns-2 c =
-    let given = c .before .before .before in
+returns-3 : tie.Need-returns-3 Inv-loop μ-loop
+returns-3 c =
+    let given = c .before .before .before .before in
     let at = c .before .before .loop in
-    let ended = found-none _ (afterOf (at .walk) (passingOf (given .args .table))) _ (c .before .advance .ensures) (c .if1 .left) in
+    let ended = found-none _ (afterOf (at .walk) (passingOf (given .args .table))) _ (c .before .advance .ensures) (c .if2 .left) in
     let nothing = ap length ended in
     sym (le-leb (length (passingOf (given .args .table))) (given .args .room) (omega arith))
 
@@ -70,10 +75,11 @@ fits-spec =
     (tie.spec
     Inv-loop
     μ-loop
+    returns
     loop-holds
     advance-requires
-    returns
+    returns-2
     sub-left
     loop-less
     loop-again
-    returns-2)
+    returns-3)

@@ -1,0 +1,80 @@
+-- The demands on lines in words, about the definitions: a decimal spells its number, in digits only and without a leading zero, and a line holds its whole text.
+-- Assumes nothing.
+use Prim.Native.Nat.{ℕ, zero, suc, _+_, _-_, _*_, _/_, _%_, _^_, _≤_, _<_, min}
+use mathlib.Core.Path.{_≡_, refl, sym, _∙_}
+use mathlib.Core.List.{List, [], _∷_, _++_}
+use mathlib.Core.Logic.{⊎-elim}
+use native.Mathlib.Nat.{mod-lt, div-add-mod', le-div-iff-mul-le, eq-or-lt-of-le}
+use native.Mathlib.Omega.{arith}
+use lib.ListN.{length, getD, length-append, List·getD-append}
+use lib.Seq.{getD-at}
+use Rattle.analysis.specs.declared.Outcome.{Outcome}
+use Rattle.analysis.specs.declared.Outcome.the-variants.{OnTime}
+use Rattle.report.specs.Words.{intervalWord, endWord, refusedWord}
+use Rattle.report.specs.Decimal.{digit, decimal, valueAfter, valueOf}
+use Rattle.report.specs.Texts.{intervalText, taskText, passText, endText, refusedText}
+use Rattle.report.proofs.Decimal.{by-digits, length-decimal}
+use Rattle.report.proofs.Fitting.{Held, held, held-number, length-outcome, length-entries}
+
+value-more : (before : ℕ) (ds : List ℕ) (d : ℕ) → valueAfter before (ds ++ (d ∷ [])) ≡ valueAfter before ds * 10 + (d - 48)
+unfolding valueAfter
+value-more before [] d = refl
+value-more before (x ∷ ds) d = value-more (before * 10 + (x - 48)) ds d
+
+value-one : (n : ℕ) → n < 10 → valueOf (digit n ∷ []) ≡ n
+unfolding valueOf valueAfter
+value-one n small = omega arith
+
+value-next : (n : ℕ) (ds : List ℕ) → 10 ≤ n → valueOf ds ≡ n / 10 → valueOf (ds ++ (digit (n % 10) ∷ [])) ≡ n
+unfolding valueOf
+value-next n ds large again = value-more 0 ds (digit (n % 10)) ∙ omega (arith, div-add-mod' n 10)
+
+-- the digits of a number spell it, so that no two numbers are written alike
+pub spells-its-number : (n : ℕ) → valueOf (decimal n) ≡ n
+spells-its-number n = by-digits (λ n ds. valueOf ds ≡ n) value-one value-next n
+
+-- each byte is a digit
+abbrev pub OfDigits : List ℕ → Type 0
+OfDigits ds = (place : ℕ) → place < length ds → (digit 0 ≤ getD ds place 0) × (getD ds place 0 ≤ digit 9)
+
+-- a decimal has digits only
+pub digits-only : (n : ℕ) → OfDigits (decimal n)
+digits-only n = by-digits (λ n ds. OfDigits ds) one next n
+  where
+    one : (n : ℕ) → n < 10 → OfDigits (digit n ∷ [])
+    one n small zero below = (omega arith, omega arith)
+    one n small (suc place) below = absurd (omega arith)
+
+    next : (n : ℕ) (ds : List ℕ) → 10 ≤ n → OfDigits ds → OfDigits (ds ++ (digit (n % 10) ∷ []))
+    next n ds large again place below =
+        let most : place ≤ length ds = omega (arith, length-append ds (digit (n % 10) ∷ [])) in
+        ⊎-elim (λ e. rw (getD-at ds (digit (n % 10)) [] 0 place (sym e)) (omega arith, omega (arith, mod-lt n {m = 10} (omega arith))))
+        (λ less. rw (List·getD-append ds (digit (n % 10) ∷ []) 0 place less) (again place less)) (eq-or-lt-of-le most)
+
+-- only the number 0 begins with the digit 0
+pub no-leading-zero : (n : ℕ) → getD (decimal n) 0 0 ≡ digit 0 → n ≡ 0
+no-leading-zero n = by-digits (λ n ds. (0 < length ds) × (getD ds 0 0 ≡ digit 0 → n ≡ 0)) (λ n small. (omega arith, λ e. omega arith)) next n .1
+  where
+    next : (n : ℕ) (ds : List ℕ) → 10 ≤ n → (0 < length ds) × (getD ds 0 0 ≡ digit 0 → n / 10 ≡ 0) → (0 < length (ds ++ (digit (n % 10) ∷ []))) × (getD (ds ++ (digit (n % 10) ∷ [])) 0 0 ≡ digit 0 → n ≡ 0)
+    next n ds large again = (
+      omega (arith, length-append ds (digit (n % 10) ∷ [])),
+      λ e. absurd (omega (arith, again .1 (sym (List·getD-append ds (digit (n % 10) ∷ []) 0 0 (again .0)) ∙ e), le-div-iff-mul-le {k = 10} {x = 1} {y = n} (omega arith) .1 (omega arith))),
+    )
+
+-- a line holds its whole text, whatever the call is given
+pub interval-held : (interval : ℕ) → interval < 2 ^ 16 → Held (intervalText interval)
+interval-held interval narrow = held-number intervalWord interval (omega arith) (omega arith)
+
+pub task-held : (place : ℕ) (outcome : Outcome) → place < 2 ^ 8 → ((time : ℕ) → outcome ≡ OnTime time → time < 2 ^ 16) → Held (taskText place outcome)
+unfolding taskText
+task-held place outcome narrow short = held (taskText place outcome) (simp length-append (omega (arith, length-decimal 2 (place + 1) (omega arith), length-outcome outcome short)))
+
+pub pass-held : (count : ℕ) (choice : List ℕ) → ((place : ℕ) → getD choice place 0 < 2 ^ 8) → Held (passText count choice)
+unfolding passText
+pass-held count choice narrow = held (passText count choice) (simp length-append (omega (arith, length-entries choice narrow (min count 8))))
+
+pub end-held : (number : ℕ) → number < 2 ^ 64 → Held (endText number)
+end-held number narrow = held-number endWord number (omega arith) narrow
+
+pub refused-held : (refusal : ℕ) → refusal < 2 ^ 8 → Held (refusedText refusal)
+refused-held refusal narrow = held-number refusedWord refusal (omega arith) (omega arith)

@@ -1,0 +1,6 @@
+-- Laws that belong to no one function.
+pub mod Decimal
+pub mod Putting
+pub mod Fitting
+pub mod Demands
+pub mod Unique

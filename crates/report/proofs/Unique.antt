@@ -1,0 +1,23 @@
+-- Each public call's promise leaves one answer: any two that it admits are equal. Assumes nothing.
+use mathlib.Core.Path.{_≡_}
+use mathlib.Core.List.{List}
+use Prim.Native.Nat.{ℕ}
+use Rattle.sheet.proofs.Unique.{both}
+use Rattle.analysis.specs.declared.Outcome.{Outcome}
+use Rattle.report.specs.declared.Line.{Line}
+use Rattle.report.specs.Texts.{lineOf, intervalText, taskText, passText, endText, refusedText}
+
+pub interval-line-unique : (interval : ℕ) (a b : Line) → a ≡ lineOf (intervalText interval) → b ≡ lineOf (intervalText interval) → a ≡ b
+interval-line-unique interval a b = both
+
+pub task-line-unique : (place : ℕ) (outcome : Outcome) (a b : Line) → a ≡ lineOf (taskText place outcome) → b ≡ lineOf (taskText place outcome) → a ≡ b
+task-line-unique place outcome a b = both
+
+pub pass-line-unique : (count : ℕ) (choice : List ℕ) (a b : Line) → a ≡ lineOf (passText count choice) → b ≡ lineOf (passText count choice) → a ≡ b
+pass-line-unique count choice a b = both
+
+pub end-line-unique : (number : ℕ) (a b : Line) → a ≡ lineOf (endText number) → b ≡ lineOf (endText number) → a ≡ b
+end-line-unique number a b = both
+
+pub refused-line-unique : (refusal : ℕ) (a b : Line) → a ≡ lineOf (refusedText refusal) → b ≡ lineOf (refusedText refusal) → a ≡ b
+refused-line-unique refusal a b = both
