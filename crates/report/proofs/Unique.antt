@@ -1,4 +1,4 @@
--- Each public call's promise leaves one answer: any two that it admits are equal. Assumes nothing.
+-- Each public call's promise leaves one answer and one content of the lent output: any two that it admits are equal. Assumes nothing.
 use mathlib.Core.Path.{_≡_}
 use mathlib.Core.List.{List}
 use Prim.Native.Nat.{ℕ}
@@ -6,6 +6,7 @@ use Rattle.sheet.proofs.Unique.{both}
 use Rattle.analysis.specs.declared.Outcome.{Outcome}
 use Rattle.report.specs.declared.Line.{Line}
 use Rattle.report.specs.Texts.{lineOf, intervalText, taskText, passText, endText, refusedText}
+use Rattle.report.specs.Pages.{putEnd, putLeaves}
 
 pub interval-line-unique : (interval : ℕ) (a b : Line) → a ≡ lineOf (intervalText interval) → b ≡ lineOf (intervalText interval) → a ≡ b
 interval-line-unique interval a b = both
@@ -21,3 +22,7 @@ end-line-unique number a b = both
 
 pub refused-line-unique : (refusal : ℕ) (a b : Line) → a ≡ lineOf (refusedText refusal) → b ≡ lineOf (refusedText refusal) → a ≡ b
 refused-line-unique refusal a b = both
+
+pub put-line-unique : (line : Line) (out : List ℕ) (at a b : ℕ) (left left′ : List ℕ)
+    → (a ≡ putEnd line out at) × (left ≡ putLeaves line out at) → (b ≡ putEnd line out at) × (left′ ≡ putLeaves line out at) → (a ≡ b) × (left ≡ left′)
+put-line-unique line out at a b left left′ p q = (both (p .0) (q .0), both (p .1) (q .1))

@@ -2,4 +2,5 @@
 pub mod Words
 pub mod Decimal
 pub mod Texts
+pub mod Pages
 pub mod Putting

@@ -1,8 +1,10 @@
-// The program's lines as bytes: one call for each kind of line, which answers any arguments with the whole line and its newline.
+// The program's lines as bytes: one call for each kind of line, which answers any arguments with the whole line and its newline, and one that puts a line into an output.
 ghost use mathlib.Core.Path.{_≡_};
 ghost use Rattle.report.specs.Texts.{lineOf, intervalText, taskText, passText, endText, refusedText};
+ghost use Rattle.report.specs.Pages.{putEnd, putLeaves};
 use analysis::Outcome;
 
+mod page;
 mod text;
 
 // A line: its text at the start of the bytes, and the text's length. The bytes after it are zero.
@@ -55,4 +57,17 @@ pub fn refused_line(refusal: u8) -> Line
     ensures { λ r. ⌜ r ≡ lineOf (refusedText refusal) ⌝ }
 {
     text::numbered(b"refused ", refusal as u64)
+}
+
+// Puts a line's text into the output from a place on: where it ends, or the place itself where it has no room, and then nothing is put.
+pub fn put_line(line: Line, out: &mut [u8], at: usize) -> usize
+    ensures { λ r. ⌜ (r ≡ putEnd line (now (out .entry)) at) × (now (out .exit) ≡ putLeaves line (now (out .entry)) at) ⌝ }
+{
+    let bytes = line.bytes;
+    let size = page::size(line.len);
+    if page::fits(size, out.len(), at) {
+        page::copy(out, at, bytes, size);
+        return at + size;
+    }
+    at
 }

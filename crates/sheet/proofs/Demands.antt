@@ -18,12 +18,12 @@ use Rattle.sheet.proofs.Agree.{records-agree, room-at}
 use Rattle.sheet.proofs.Return.{Wide, sheet-kept, table-kept, count-read, reserved-read, interval-read, records-read}
 
 -- a good sheet is read as its table
-read-good : (s : List ℕ) → sheetRefusal s ≡ 0 → readAnswer s ≡ record { refusal = 0; table = tableOf s }
+pub read-good : (s : List ℕ) → sheetRefusal s ≡ 0 → readAnswer s ≡ record { refusal = 0; table = tableOf s }
 unfolding readAnswer
 read-good s good = simp good
 
 -- the table of a good sheet is good
-table-good : (s : List ℕ) → sheetRefusal s ≡ 0 → tableRefusal (tableOf s) ≡ 0
+pub table-good : (s : List ℕ) → sheetRefusal s ≡ 0 → tableRefusal (tableOf s) ≡ 0
 unfolding tableOf
 table-good s good =
     let header = good-sheet s good .0 in

@@ -14,22 +14,22 @@ pub data Fit : List ℕ → List ℕ → Type 0 where
   none : Fit [] []
   one : {w v : ℕ} {ws vs : List ℕ} → v < 2 ^ w → Fit ws vs → Fit (w ∷ ws) (v ∷ vs)
 
-packed-lt : {ws vs : List ℕ} → Fit ws vs → packed ws vs < 2 ^ bitsOf ws
+pub packed-lt : {ws vs : List ℕ} → Fit ws vs → packed ws vs < 2 ^ bitsOf ws
 packed-lt none = lit< tt
 packed-lt (one {w = w} {v = v} {ws = ws} {vs = vs} h f) =
     subst (λ (m : ℕ). v * 2 ^ bitsOf ws + packed ws vs < m) (sym (pow-add 2 w (bitsOf ws))) (digits-lt h (packed-lt f))
 
-unpacked-packed : {ws vs : List ℕ} → Fit ws vs → unpacked ws (packed ws vs) ≡ vs
+pub unpacked-packed : {ws vs : List ℕ} → Fit ws vs → unpacked ws (packed ws vs) ≡ vs
 unpacked-packed none = refl
 unpacked-packed (one {v = v} {ws = ws} h f) =
     ap₂ _∷_ (high v (bitsOf ws) (packed-lt f)) (ap (unpacked ws) (low v (bitsOf ws) (packed-lt f)) ∙ unpacked-packed f)
 
-packed-unpacked : (ws : List ℕ) (n : ℕ) → n < 2 ^ bitsOf ws → packed ws (unpacked ws n) ≡ n
+pub packed-unpacked : (ws : List ℕ) (n : ℕ) → n < 2 ^ bitsOf ws → packed ws (unpacked ws n) ≡ n
 packed-unpacked [] n h = sym (lt-one h)
 packed-unpacked (w ∷ ws) n h =
     ap (λ (l : ℕ). n / 2 ^ bitsOf ws * 2 ^ bitsOf ws + l) (packed-unpacked ws (n % 2 ^ bitsOf ws) (mod-lt n (pow-pos (bitsOf ws)))) ∙ split n (bitsOf ws)
 
-fit-unpacked : (ws : List ℕ) (n : ℕ) → n < 2 ^ bitsOf ws → Fit ws (unpacked ws n)
+pub fit-unpacked : (ws : List ℕ) (n : ℕ) → n < 2 ^ bitsOf ws → Fit ws (unpacked ws n)
 fit-unpacked [] n h = none
 fit-unpacked (w ∷ ws) n h = one (shr-lt w (bitsOf ws) h) (fit-unpacked ws (n % 2 ^ bitsOf ws) (mod-lt n (pow-pos (bitsOf ws))))
 

@@ -1,0 +1,325 @@
+/*
+ * Measures the library against the climbing baseline and prints three tables in Markdown. First every
+ * measured call is made once on both sides, and any difference in answers or bytes ends the program with
+ * status 1; then the two sides are timed in turn, and the shortest time of each is shown.
+ * The one argument is a sentence on how the program was built and is run, which is printed on top.
+ */
+#define _POSIX_C_SOURCE 199309L
+
+#include <stdio.h>
+#include <stdlib.h>
+#include <string.h>
+#include <time.h>
+
+#include "climbing.h"
+#include "fidhaqooban.h"
+#include "sheets.h"
+
+#define UNTOUCHED 0xA5
+#define LENGTH(array) (sizeof(array) / sizeof((array)[0]))
+
+/* The calls of one side. */
+struct side {
+    uint8_t (*judge)(const uint8_t *, size_t);
+    int64_t (*rewrite)(const uint8_t *, size_t, uint8_t *, size_t);
+    int64_t (*response)(const uint8_t *, size_t, size_t);
+    int64_t (*verdict)(const uint8_t *, size_t);
+    int64_t (*least_interval)(const uint8_t *, size_t);
+    int64_t (*next)(const uint8_t *, size_t, uint32_t);
+    int64_t (*list)(const uint8_t *, size_t, uint8_t *, size_t);
+};
+
+/* The bytes of a sheet and its number of tasks. */
+struct packed {
+    uint8_t bytes[FQ_SHEET_BYTES];
+    size_t len;
+    size_t count;
+};
+
+/* One measured use of a side; answers and bytes are compared between the sides. */
+typedef int64_t measured_use(const struct side *side, const struct packed *sheet, uint8_t *out);
+
+/* One line of a table; a count of 0 takes the sheet's own, and the times are the shortest so far. */
+struct row {
+    const char *name;
+    measured_use *use;
+    const struct sheet *sheet;
+    uint8_t count;
+    const char *reason;
+    double seconds[2];
+};
+
+/* How a row is timed after its check: at least so many repetitions, each so long, and so long in all. */
+struct effort {
+    int repetitions;
+    double each;
+    double all;
+};
+
+static const struct side sides[2] = {
+    {fq_judge, fq_rewrite, fq_response, fq_verdict, fq_least_interval, fq_next, fq_list},
+    {climbing_judge, climbing_rewrite, climbing_response, climbing_verdict, climbing_least_interval,
+     climbing_next, climbing_list},
+};
+
+static uint8_t outputs[2][FQ_LIST_BYTES];
+
+/* Judges a sheet. */
+static int64_t use_judge(const struct side *side, const struct packed *sheet, uint8_t *out)
+{
+    (void)out;
+    return side->judge(sheet->bytes, sheet->len);
+}
+
+/* Reads and writes a sheet. */
+static int64_t use_rewrite(const struct side *side, const struct packed *sheet, uint8_t *out)
+{
+    return side->rewrite(sheet->bytes, sheet->len, out, FQ_SHEET_BYTES);
+}
+
+/* Asks for the response of each record. */
+static int64_t use_responses(const struct side *side, const struct packed *sheet, uint8_t *out)
+{
+    for (size_t place = 0; place < sheet->count; place++) {
+        int64_t answer = side->response(sheet->bytes, sheet->len, place);
+        memcpy(out + place * sizeof answer, &answer, sizeof answer);
+    }
+    return 0;
+}
+
+/* Asks for the response of the first record. */
+static int64_t use_response(const struct side *side, const struct packed *sheet, uint8_t *out)
+{
+    (void)out;
+    return side->response(sheet->bytes, sheet->len, 0);
+}
+
+/* Asks for the verdict. */
+static int64_t use_verdict(const struct side *side, const struct packed *sheet, uint8_t *out)
+{
+    (void)out;
+    return side->verdict(sheet->bytes, sheet->len);
+}
+
+/* Asks for the least interval. */
+static int64_t use_least_interval(const struct side *side, const struct packed *sheet, uint8_t *out)
+{
+    (void)out;
+    return side->least_interval(sheet->bytes, sheet->len);
+}
+
+/* Asks for the first passing choice. */
+static int64_t use_next(const struct side *side, const struct packed *sheet, uint8_t *out)
+{
+    (void)out;
+    return side->next(sheet->bytes, sheet->len, 0);
+}
+
+/* Walks from before the first choice to the end, and answers how many choices pass. */
+static int64_t use_walk(const struct side *side, const struct packed *sheet, uint8_t *out)
+{
+    int64_t steps = 0;
+    uint32_t choice = (uint32_t)side->next(sheet->bytes, sheet->len, 0);
+
+    while (choice != 0) {
+        memcpy(out + (size_t)steps * sizeof choice, &choice, sizeof choice);
+        choice = (uint32_t)side->next(sheet->bytes, sheet->len, choice);
+        steps++;
+    }
+    return steps;
+}
+
+/* Lists the passing choices into room for all of them. */
+static int64_t use_list(const struct side *side, const struct packed *sheet, uint8_t *out)
+{
+    return side->list(sheet->bytes, sheet->len, out, FQ_LIST_BYTES);
+}
+
+/* Makes calls that are refused, each for another reason, and lists into one byte too little. */
+static int64_t use_refused(const struct side *side, const struct packed *sheet, uint8_t *out)
+{
+    size_t len = sheet->len;
+    size_t passing = (size_t)side->list(sheet->bytes, len, out, FQ_LIST_BYTES);
+
+    memset(out, UNTOUCHED, FQ_LIST_BYTES);
+    int64_t answers[] = {
+        side->judge(sheet->bytes, 2),
+        side->verdict(sheet->bytes, len - 1),
+        side->least_interval(sheet->bytes + 1, len - 1),
+        side->response(sheet->bytes, len, sheet->count),
+        side->next(sheet->bytes, len, 1),
+        side->rewrite(sheet->bytes, len, out, len - 1),
+        side->list(sheet->bytes, len, out, 4 * passing - 1),
+    };
+    memcpy(out + FQ_LIST_BYTES - sizeof answers, answers, sizeof answers);
+    return (int64_t)passing;
+}
+
+/* The first table. */
+static struct row main_rows[] = {
+    {.name = "judge a sheet of 8", .use = use_judge, .sheet = &everyday},
+    {.name = "rewrite a sheet of 8", .use = use_rewrite, .sheet = &everyday},
+    {.name = "all 8 responses", .use = use_responses, .sheet = &everyday},
+    {.name = "verdict on 8 tasks, passing", .use = use_verdict, .sheet = &everyday},
+    {.name = "list of 8 tasks, all 40320 pass", .use = use_list, .sheet = &everyday},
+    {.name = "list of 8 tasks, 20160 pass", .use = use_list, .sheet = &half_passing},
+    {.name = "list of 8 tasks, none: first record late", .use = use_list, .sheet = &refuted_first},
+    {.name = "list of 8 tasks, none: last record late", .use = use_list, .sheet = &refuted_last},
+    {.name = "least interval of 8 tasks, 257", .use = use_least_interval, .sheet = &everyday},
+    {.name = "walk through all 720 of 6 tasks", .use = use_walk, .sheet = &everyday, .count = 6},
+};
+
+/* The rows of one call in the second table, on the first n records of the everyday sheet. */
+#define GROWTH(NAME, USE) \
+    {.name = NAME ", n = 1", .use = USE, .sheet = &everyday, .count = 1}, \
+    {.name = NAME ", n = 2", .use = USE, .sheet = &everyday, .count = 2}, \
+    {.name = NAME ", n = 3", .use = USE, .sheet = &everyday, .count = 3}, \
+    {.name = NAME ", n = 4", .use = USE, .sheet = &everyday, .count = 4}, \
+    {.name = NAME ", n = 5", .use = USE, .sheet = &everyday, .count = 5}, \
+    {.name = NAME ", n = 6", .use = USE, .sheet = &everyday, .count = 6}, \
+    {.name = NAME ", n = 7", .use = USE, .sheet = &everyday, .count = 7}, \
+    {.name = NAME ", n = 8", .use = USE, .sheet = &everyday, .count = 8}
+
+static struct row growth_rows[] = {
+    GROWTH("rewrite", use_rewrite),
+    GROWTH("all responses", use_responses),
+    GROWTH("least interval", use_least_interval),
+    GROWTH("list, all pass", use_list),
+};
+
+/* The third table. */
+static struct row slow_rows[] = {
+    {.name = "response", .use = use_response, .sheet = &slow_response,
+     .reason = "a fault at every tick: 65535 steps of one tick, then late"},
+    {.name = "verdict", .use = use_verdict, .sheet = &slow_verdict,
+     .reason = "load just under 1: five tasks climb to about 60000, then the seventh record is late"},
+    {.name = "least interval, none", .use = use_least_interval, .sheet = &slow_interval,
+     .reason = "all 65535 intervals are tried, most after five long climbs"},
+    {.name = "list of 6 tasks, none", .use = use_list, .sheet = &slow_steps,
+     .reason = "a job at every tick: each of 720 choices takes 32768 or 65535 steps"},
+    {.name = "list of 8 tasks, none", .use = use_list, .sheet = &slow_choices,
+     .reason = "each of 40320 choices is refuted after five long climbs"},
+    {.name = "one step of the walk, end", .use = use_next, .sheet = &slow_choices,
+     .reason = "the same sheet: one call tries all 40320 choices"},
+};
+
+static struct row refused_row = {.name = "refused calls", .use = use_refused, .sheet = &everyday};
+
+/* The present time in seconds. */
+static double now(void)
+{
+    struct timespec time;
+
+    clock_gettime(CLOCK_PROCESS_CPUTIME_ID, &time);
+    return (double)time.tv_sec + 1e-9 * (double)time.tv_nsec;
+}
+
+/* The bytes of a row's sheet; a row whose sheet is not good ends the program. */
+static struct packed pack(const struct row *row)
+{
+    const struct sheet *sheet = row->sheet;
+    struct packed packed = {.count = row->count != 0 ? row->count : sheet->count};
+    int64_t len = fq_write((uint8_t)packed.count, sheet->interval, sheet->fields, LENGTH(sheet->fields),
+                           packed.bytes, sizeof packed.bytes);
+
+    if (len <= 0) {
+        fprintf(stderr, "the sheet of \"%s\" is refused\n", row->name);
+        exit(1);
+    }
+    packed.len = (size_t)len;
+    return packed;
+}
+
+/* Makes the calls of each row once on both sides; a difference ends the program. */
+static void check(struct row *rows, size_t count)
+{
+    for (struct row *row = rows; row < rows + count; row++) {
+        struct packed sheet = pack(row);
+        int64_t answers[2];
+
+        for (int side = 0; side < 2; side++) {
+            memset(outputs[side], UNTOUCHED, FQ_LIST_BYTES);
+            double start = now();
+            answers[side] = row->use(&sides[side], &sheet, outputs[side]);
+            row->seconds[side] = now() - start;
+        }
+        if (answers[0] != answers[1] || memcmp(outputs[0], outputs[1], FQ_LIST_BYTES) != 0) {
+            fprintf(stderr, "the two sides differ on \"%s\"\n", row->name);
+            exit(1);
+        }
+    }
+}
+
+/* Times both sides of a row in turn, and keeps the shortest time of each, which sets how often to call next. */
+static void measure(struct row *row, const struct effort *effort)
+{
+    struct packed sheet = pack(row);
+    double end = now() + effort->all;
+
+    for (int turn = 0; turn < 2 * effort->repetitions || turn % 2 != 0 || now() < end; turn++) {
+        int side = turn % 2;
+        long calls = 1 + (long)(effort->each / (row->seconds[side] + 1e-9));
+        double start = now();
+
+        for (long call = 0; call < calls; call++)
+            row->use(&sides[side], &sheet, outputs[side]);
+        double seconds = (now() - start) / (double)calls;
+        if (seconds < row->seconds[side])
+            row->seconds[side] = seconds;
+    }
+}
+
+/* Prints a time in a unit that suits it. */
+static void print_time(double seconds)
+{
+    if (seconds < 1e-6)
+        printf(" %.0f ns |", seconds * 1e9);
+    else if (seconds < 1e-3)
+        printf(" %.2f us |", seconds * 1e6);
+    else if (seconds < 1)
+        printf(" %.2f ms |", seconds * 1e3);
+    else
+        printf(" %.2f s |", seconds);
+}
+
+/* Measures and prints one table. */
+static void print_table(const char *title, struct row *rows, size_t count, const struct effort *effort)
+{
+    int reasons = rows->reason != NULL;
+
+    printf("\n## %s\n\n| Call | library | climbing C | ratio |%s\n", title, reasons ? " why it is slow |" : "");
+    printf("|---|---:|---:|---:|%s\n", reasons ? "---|" : "");
+    for (struct row *row = rows; row < rows + count; row++) {
+        measure(row, effort);
+        printf("| %s |", row->name);
+        print_time(row->seconds[0]);
+        print_time(row->seconds[1]);
+        printf(" %.2f |", row->seconds[0] / row->seconds[1]);
+        if (reasons)
+            printf(" %s |", row->reason);
+        printf("\n");
+        fflush(stdout);
+    }
+}
+
+/* Checks everything, then prints the tables. */
+int main(int argc, char **argv)
+{
+    const struct effort usual = {3, 0.002, 0.4};
+    const struct effort slow = {1, 0.002, 0.2};
+
+    if (argc != 2) {
+        fprintf(stderr, "one argument is wanted: how the program was built and is run\n");
+        return 2;
+    }
+    check(&refused_row, 1);
+    check(main_rows, LENGTH(main_rows));
+    check(growth_rows, LENGTH(growth_rows));
+    check(slow_rows, LENGTH(slow_rows));
+    printf("%s Times are for one call; both sides gave the same answers and bytes.\n", argv[1]);
+    print_table("The calls", main_rows, LENGTH(main_rows), &usual);
+    print_table("Growth with the number of tasks n", growth_rows, LENGTH(growth_rows), &usual);
+    print_table("Slow sheets (judging and rewriting are slowest on any good sheet of 8)", slow_rows,
+                LENGTH(slow_rows), &slow);
+    return 0;
+}

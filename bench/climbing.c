@@ -1,0 +1,385 @@
+/*
+ * The baseline of the measurements, as one would write it for firmware: the sheet is read once into a table
+ * indexed by priority, and every least time is found by climbing from its start.
+ */
+#include "climbing.h"
+
+#define MOST_TASKS 8
+#define HEADER_BYTES 3
+#define RECORD_BYTES 9
+#define ENTRY_BYTES 4
+#define MOST_INTERVAL 65535
+
+#define REFUSED_PLACE 12
+#define REFUSED_CHOICE 13
+#define REFUSED_ROOM 11
+
+/* One task; its priority is its index in the table. */
+struct record {
+    uint16_t cost;
+    uint16_t backup;
+    uint16_t deadline;
+    uint16_t period;
+    uint8_t fault_priority;
+};
+
+/* A good sheet: the tasks by priority (entry 0 is unused), and the priority found at each place. */
+struct table {
+    unsigned count;
+    uint32_t interval;
+    uint8_t priority_at[MOST_TASKS];
+    struct record records[MOST_TASKS + 1];
+};
+
+/* What a span has to cover: a fixed part, the jobs above a level except one task's, and a backup per fault. */
+struct burden {
+    int64_t fixed;
+    unsigned above;
+    unsigned except;
+    uint32_t backup;
+};
+
+/* Two bytes as a number, the first byte highest. */
+static uint16_t read_number(const uint8_t *bytes)
+{
+    return (uint16_t)(bytes[0] << 8 | bytes[1]);
+}
+
+/* A number as two bytes, the first byte highest. */
+static void write_number(uint8_t *bytes, uint32_t number)
+{
+    bytes[0] = (uint8_t)(number >> 8);
+    bytes[1] = (uint8_t)number;
+}
+
+/* Reads the header, and answers the first of rules 1 to 5 that it breaks, or 0. */
+static uint8_t read_header(const uint8_t *sheet, size_t len, struct table *table)
+{
+    if (len < HEADER_BYTES)
+        return 1;
+    table->count = sheet[0] >> 4;
+    table->interval = read_number(sheet + 1);
+    if (table->count == 0 || table->count > MOST_TASKS)
+        return 2;
+    if ((sheet[0] & 15) != 0)
+        return 3;
+    if (len != HEADER_BYTES + RECORD_BYTES * (size_t)table->count)
+        return 4;
+    return table->interval == 0 ? 5 : 0;
+}
+
+/* Reads the record at a place, and answers the first of rules 6 to 10 that it breaks, or 0. */
+static uint8_t read_record(const uint8_t *bytes, unsigned place, unsigned *seen, struct table *table)
+{
+    uint16_t cost = read_number(bytes);
+    uint16_t backup = read_number(bytes + 2);
+    uint16_t deadline = read_number(bytes + 4);
+    uint16_t period = read_number(bytes + 6);
+    uint8_t priority = bytes[8] >> 4;
+    uint8_t fault_priority = bytes[8] & 15;
+
+    if (cost == 0 || cost > deadline)
+        return 6;
+    if (backup == 0 || backup > deadline)
+        return 7;
+    if (deadline > period)
+        return 8;
+    if (priority == 0 || priority > table->count || (*seen >> priority & 1) != 0)
+        return 9;
+    if (fault_priority == 0 || fault_priority > priority)
+        return 10;
+    *seen |= 1u << priority;
+    table->priority_at[place] = priority;
+    table->records[priority] = (struct record){cost, backup, deadline, period, fault_priority};
+    return 0;
+}
+
+/* Reads a whole sheet, and answers the first rule that it breaks, or 0. */
+static uint8_t read_sheet(const uint8_t *sheet, size_t len, struct table *table)
+{
+    unsigned seen = 0;
+    uint8_t refusal = read_header(sheet, len, table);
+
+    for (unsigned place = 0; refusal == 0 && place < table->count; place++)
+        refusal = read_record(sheet + HEADER_BYTES + RECORD_BYTES * place, place, &seen, table);
+    return refusal;
+}
+
+/* Writes the sheet of a table. */
+static void write_sheet(const struct table *table, uint8_t *out)
+{
+    out[0] = (uint8_t)(table->count << 4);
+    write_number(out + 1, table->interval);
+    for (unsigned place = 0; place < table->count; place++) {
+        unsigned priority = table->priority_at[place];
+        const struct record *record = &table->records[priority];
+        uint8_t *bytes = out + HEADER_BYTES + RECORD_BYTES * place;
+
+        write_number(bytes, record->cost);
+        write_number(bytes + 2, record->backup);
+        write_number(bytes + 4, record->deadline);
+        write_number(bytes + 6, record->period);
+        bytes[8] = (uint8_t)(priority << 4 | record->fault_priority);
+    }
+}
+
+/* How often something that comes once in each period comes within a span of at least 1. */
+static uint32_t arrivals(uint32_t span, uint32_t period)
+{
+    return (span - 1) / period + 1;
+}
+
+/* The largest backup with at least a fault priority, one task left out, or 0; no lower priority can have it. */
+static uint32_t largest_backup(const struct table *table, unsigned level, unsigned except)
+{
+    uint32_t largest = 0;
+
+    for (unsigned priority = level; priority <= table->count; priority++) {
+        const struct record *record = &table->records[priority];
+        if (record->fault_priority >= level && record->backup > largest && priority != except)
+            largest = record->backup;
+    }
+    return largest;
+}
+
+/* What a burden comes to within a span; 64 bits, as a backup at every tick can pass 32. */
+static int64_t due(const struct table *table, const struct burden *burden, uint32_t span)
+{
+    int64_t sum = burden->fixed + (int64_t)arrivals(span, table->interval) * burden->backup;
+
+    for (unsigned priority = burden->above + 1; priority <= table->count; priority++) {
+        const struct record *record = &table->records[priority];
+        if (priority != burden->except)
+            sum += arrivals(span, record->period) * record->cost;
+    }
+    return sum;
+}
+
+/* The least span from a start on that covers its burden, or 0 where it passes the deadline. */
+static uint32_t climb(const struct table *table, const struct burden *burden, uint32_t start, uint32_t deadline)
+{
+    int64_t span = start;
+
+    while (span <= deadline) {
+        int64_t needed = due(table, burden, (uint32_t)span);
+        if (needed <= span)
+            return (uint32_t)span;
+        span = needed;
+    }
+    return 0;
+}
+
+/* The time of a task while faults strike others only, or 0 where it is late. */
+static uint32_t struck_elsewhere(const struct table *table, unsigned own)
+{
+    const struct record *record = &table->records[own];
+    struct burden burden = {record->cost, own, own, largest_backup(table, own, own)};
+
+    return climb(table, &burden, 1, record->deadline);
+}
+
+/* The time of a task that is struck itself, or 0 where it or its first stage is late. */
+static uint32_t struck_itself(const struct table *table, unsigned own)
+{
+    const struct record *record = &table->records[own];
+    unsigned level = record->fault_priority;
+    uint32_t backup = largest_backup(table, level, 0);
+    struct burden first = {(int64_t)record->backup - backup, level, own, backup};
+    uint32_t recovered = climb(table, &first, 1, record->deadline);
+    struct burden second = {0, own, own, largest_backup(table, own, 0)};
+
+    if (recovered == 0)
+        return 0;
+    second.fixed = (int64_t)recovered + record->cost - due(table, &second, recovered);
+    return climb(table, &second, recovered, record->deadline);
+}
+
+/* The response time of a task, or 0 where it is late. */
+static uint32_t response(const struct table *table, unsigned own)
+{
+    uint32_t elsewhere = struck_elsewhere(table, own);
+    uint32_t itself = elsewhere == 0 ? 0 : struck_itself(table, own);
+
+    return itself == 0 || itself > elsewhere ? itself : elsewhere;
+}
+
+/* Whether no task is late; the tasks are tried in record order up to the first late one. */
+static int passes(const struct table *table)
+{
+    for (unsigned place = 0; place < table->count; place++)
+        if (response(table, table->priority_at[place]) == 0)
+            return 0;
+    return 1;
+}
+
+/* Sets the first choice of fault priorities. */
+static void set_first(struct table *table)
+{
+    for (unsigned priority = 1; priority <= table->count; priority++)
+        table->records[priority].fault_priority = 1;
+}
+
+/* Sets the choice after the present one, or answers 0 after the last. */
+static int set_following(struct table *table)
+{
+    for (unsigned place = table->count; place > 0; place--) {
+        unsigned priority = table->priority_at[place - 1];
+        struct record *record = &table->records[priority];
+        if (record->fault_priority < priority) {
+            record->fault_priority++;
+            return 1;
+        }
+        record->fault_priority = 1;
+    }
+    return 0;
+}
+
+/* The present choice as a number, four bits for each record. */
+static uint32_t pack_choice(const struct table *table)
+{
+    uint32_t choice = 0;
+
+    for (unsigned place = 0; place < table->count; place++)
+        choice |= (uint32_t)table->records[table->priority_at[place]].fault_priority << (28 - 4 * place);
+    return choice;
+}
+
+/* Sets a choice from its number, or answers 0 where it is not allowed. */
+static int set_choice(struct table *table, uint32_t choice)
+{
+    for (unsigned place = 0; place < table->count; place++) {
+        unsigned priority = table->priority_at[place];
+        uint8_t entry = choice >> (28 - 4 * place) & 15;
+        if (entry == 0 || entry > priority)
+            return 0;
+        table->records[priority].fault_priority = entry;
+    }
+    return pack_choice(table) == choice;
+}
+
+/* Writes the passing choices, or only counts them where out is null. */
+static size_t list_choices(struct table *table, uint8_t *out)
+{
+    size_t entries = 0;
+
+    set_first(table);
+    do {
+        if (!passes(table))
+            continue;
+        if (out != NULL) {
+            uint32_t choice = pack_choice(table);
+            write_number(out + ENTRY_BYTES * entries, choice >> 16);
+            write_number(out + ENTRY_BYTES * entries + 2, choice);
+        }
+        entries++;
+    } while (set_following(table));
+    return entries;
+}
+
+/* How many choices a sheet of so many tasks has. */
+static size_t count_choices(unsigned count)
+{
+    size_t choices = 1;
+
+    for (unsigned factor = 2; factor <= count; factor++)
+        choices *= factor;
+    return choices;
+}
+
+/* 0 where the sheet is good, or the refusal. */
+uint8_t climbing_judge(const uint8_t *sheet, size_t len)
+{
+    struct table table;
+
+    return read_sheet(sheet, len, &table);
+}
+
+/* Reads a sheet and writes it again. */
+int64_t climbing_rewrite(const uint8_t *sheet, size_t len, uint8_t *out, size_t out_len)
+{
+    struct table table;
+    uint8_t refusal = read_sheet(sheet, len, &table);
+
+    if (refusal != 0)
+        return -refusal;
+    if (out_len < len)
+        return -REFUSED_ROOM;
+    write_sheet(&table, out);
+    return (int64_t)len;
+}
+
+/* The response time of the record at a place, 0 where it is late, or minus the refusal. */
+int64_t climbing_response(const uint8_t *sheet, size_t len, size_t place)
+{
+    struct table table;
+    uint8_t refusal = read_sheet(sheet, len, &table);
+
+    if (refusal != 0)
+        return -refusal;
+    if (place >= table.count)
+        return -REFUSED_PLACE;
+    return response(&table, table.priority_at[place]);
+}
+
+/* 1 where the sheet passes, 0 where it does not, or minus the refusal. */
+int64_t climbing_verdict(const uint8_t *sheet, size_t len)
+{
+    struct table table;
+    uint8_t refusal = read_sheet(sheet, len, &table);
+
+    return refusal != 0 ? -refusal : passes(&table);
+}
+
+/*
+ * The least interval at which the sheet passes, 0 where there is none, or minus the refusal. Every interval
+ * is tried from 1 up: a longer interval does not always help, and the library assumes nothing of the kind.
+ */
+int64_t climbing_least_interval(const uint8_t *sheet, size_t len)
+{
+    struct table table;
+    uint8_t refusal = read_sheet(sheet, len, &table);
+
+    if (refusal != 0)
+        return -refusal;
+    for (table.interval = 1; table.interval <= MOST_INTERVAL; table.interval++)
+        if (passes(&table))
+            return table.interval;
+    return 0;
+}
+
+/* The next passing choice after any allowed one, 0 at the end, or minus the refusal. */
+int64_t climbing_next(const uint8_t *sheet, size_t len, uint32_t after)
+{
+    struct table table;
+    uint8_t refusal = read_sheet(sheet, len, &table);
+    int left = 1;
+
+    if (refusal != 0)
+        return -refusal;
+    if (after == 0)
+        set_first(&table);
+    else if (!set_choice(&table, after))
+        return -REFUSED_CHOICE;
+    else
+        left = set_following(&table);
+    while (left && !passes(&table))
+        left = set_following(&table);
+    return left ? pack_choice(&table) : 0;
+}
+
+/*
+ * Writes every passing choice, and answers how many, or minus the refusal. Where there is room for all
+ * choices nothing can be refused any more, so they are counted first only where there is less.
+ */
+int64_t climbing_list(const uint8_t *sheet, size_t len, uint8_t *out, size_t out_len)
+{
+    struct table table;
+    uint8_t refusal = read_sheet(sheet, len, &table);
+
+    if (refusal != 0)
+        return -refusal;
+    if (out_len < ENTRY_BYTES * count_choices(table.count)
+        && out_len < ENTRY_BYTES * list_choices(&table, NULL))
+        return -REFUSED_ROOM;
+    return (int64_t)list_choices(&table, out);
+}

@@ -1,0 +1,43 @@
+// Lines gathered in a buffer and written to standard output.
+use libc::STDOUT_FILENO;
+use report::Line;
+
+// Where the next line goes, or that the lines before it could not be written.
+pub enum Kept {
+    Next(usize),
+    Lost,
+}
+
+// Writes the lines gathered so far, which end at a place of the buffer: whether they could be written.
+pub fn write(buffer: &[u8], end: usize) -> bool {
+    if end <= buffer.len() {
+        return io::write_all(STDOUT_FILENO, &buffer[..end]);
+    }
+    false
+}
+
+// Gathers one more line; where it has no room, those before it are written first.
+pub fn keep(buffer: &mut [u8], end: usize, line: Line) -> Kept {
+    let next = report::put_line(line, buffer, end);
+    if next != end {
+        return Kept::Next(next);
+    }
+    if write(buffer, end) {
+        return Kept::Next(report::put_line(line, buffer, 0));
+    }
+    Kept::Lost
+}
+
+// Writes the lines gathered so far and one more.
+pub fn finish(buffer: &mut [u8], end: usize, line: Line) -> bool {
+    match keep(buffer, end, line) {
+        Kept::Next(next) => write(buffer, next),
+        Kept::Lost => false,
+    }
+}
+
+// Writes one line.
+pub fn line(line: Line) -> bool {
+    let mut buffer = io::buffer();
+    finish(&mut buffer, 0, line)
+}

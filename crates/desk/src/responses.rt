@@ -1,0 +1,18 @@
+// The interval and the response of each record.
+use crate::output;
+use sheet::Table;
+
+// Prints the interval line and a line for each record.
+pub fn print(table: Table) -> bool {
+    let mut buffer = io::buffer();
+    let entries = analysis::response_times(table).entries;
+    let mut end = report::put_line(report::interval_line(table.interval), &mut buffer, 0);
+    let mut place: u8 = 0;
+    while place < 8 && place < table.count {
+        let entry = entries[place as usize];
+        let outcome = entry.outcome;
+        end = report::put_line(report::task_line(place, outcome), &mut buffer, end);
+        place += 1;
+    }
+    output::write(&buffer, end)
+}

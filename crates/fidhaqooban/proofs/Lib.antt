@@ -1,0 +1,8 @@
+-- Laws that belong to no one function.
+pub mod Minus
+pub mod Fields
+pub mod Answered
+pub mod Written
+pub mod Chosen
+pub mod Demands
+pub mod Unique

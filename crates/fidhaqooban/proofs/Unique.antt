@@ -1,0 +1,39 @@
+-- Each exported function's promise leaves one answer and one content of the lent output: any two that it admits are equal. Assumes nothing.
+use Prim.Native.Nat.{ℕ}
+use mathlib.Core.Path.{_≡_}
+use mathlib.Core.List.{List}
+use lib.IntN.{ℤ}
+use Rattle.sheet.specs.Rules.{sheetRefusal}
+use Rattle.sheet.proofs.Unique.{both}
+use Rattle.fidhaqooban.specs.Answers.{writeNumber, writeLeft, rewriteNumber, rewriteLeft, recordNumber, responseNumber, verdictNumber, intervalNumber, nextNumber, listNumber, listLeft}
+
+pub fq-judge-unique : (sheet : List ℕ) (a b : ℕ) → a ≡ sheetRefusal sheet → b ≡ sheetRefusal sheet → a ≡ b
+fq-judge-unique sheet a b = both
+
+pub fq-write-unique : (count interval : ℕ) (fields out : List ℕ) (a b : ℤ) (left left′ : List ℕ)
+    → (a ≡ writeNumber count interval fields out) × (left ≡ writeLeft count interval fields out)
+    → (b ≡ writeNumber count interval fields out) × (left′ ≡ writeLeft count interval fields out) → (a ≡ b) × (left ≡ left′)
+fq-write-unique count interval fields out a b left left′ p q = (both (p .0) (q .0), both (p .1) (q .1))
+
+pub fq-rewrite-unique : (sheet out : List ℕ) (a b : ℤ) (left left′ : List ℕ)
+    → (a ≡ rewriteNumber sheet out) × (left ≡ rewriteLeft sheet out) → (b ≡ rewriteNumber sheet out) × (left′ ≡ rewriteLeft sheet out) → (a ≡ b) × (left ≡ left′)
+fq-rewrite-unique sheet out a b left left′ p q = (both (p .0) (q .0), both (p .1) (q .1))
+
+pub fq-record-unique : (sheet : List ℕ) (place : ℕ) (a b : ℤ) → a ≡ recordNumber sheet place → b ≡ recordNumber sheet place → a ≡ b
+fq-record-unique sheet place a b = both
+
+pub fq-response-unique : (sheet : List ℕ) (place : ℕ) (a b : ℤ) → a ≡ responseNumber sheet place → b ≡ responseNumber sheet place → a ≡ b
+fq-response-unique sheet place a b = both
+
+pub fq-verdict-unique : (sheet : List ℕ) (a b : ℤ) → a ≡ verdictNumber sheet → b ≡ verdictNumber sheet → a ≡ b
+fq-verdict-unique sheet a b = both
+
+pub fq-least-interval-unique : (sheet : List ℕ) (a b : ℤ) → a ≡ intervalNumber sheet → b ≡ intervalNumber sheet → a ≡ b
+fq-least-interval-unique sheet a b = both
+
+pub fq-next-unique : (sheet : List ℕ) (after : ℕ) (a b : ℤ) → a ≡ nextNumber sheet after → b ≡ nextNumber sheet after → a ≡ b
+fq-next-unique sheet after a b = both
+
+pub fq-list-unique : (sheet out : List ℕ) (a b : ℤ) (left left′ : List ℕ)
+    → (a ≡ listNumber sheet out) × (left ≡ listLeft sheet out) → (b ≡ listNumber sheet out) × (left′ ≡ listLeft sheet out) → (a ≡ b) × (left ≡ left′)
+fq-list-unique sheet out a b left left′ p q = (both (p .0) (q .0), both (p .1) (q .1))

@@ -1,0 +1,71 @@
+-- What is written, as the answers of `fq_write` and `fq_rewrite`. Assumes nothing.
+use Prim.Native.Nat.{ℕ, _≤_, zero-le}
+use mathlib.Core.Path.{_≡_, sym, ap, _∙_}
+use mathlib.Core.Bool.{Bool, true, false, cond}
+use mathlib.Core.List.{List, _++_}
+use native.Mathlib.Nat.{le-refl}
+use native.Mathlib.Omega.{arith}
+use borrow.Author.Tests.{ne-eqb}
+use lib.Dec.{eqb, ltb}
+use lib.ListN.{length, drop}
+use Rattle.sheet.specs.declared.Reading.{Reading}
+use Rattle.sheet.specs.declared.Table.{Table}
+use Rattle.sheet.specs.declared.Writing.{Writing}
+use Rattle.sheet.specs.Layout.{countOf, sizeOf, tableOf, sheetOf}
+use Rattle.sheet.specs.Rules.{sheetRefusal}
+use Rattle.sheet.specs.Answers.{readAnswer, writeRefusal, writeAnswer, writeLeaves}
+use Rattle.sheet.proofs.Spelled.{Bytes}
+use Rattle.sheet.proofs.Turns.{next-of, none-of}
+use Rattle.sheet.proofs.Cases.{GoodHeader, good-sheet}
+use Rattle.sheet.proofs.Return.{sheet-kept}
+use Rattle.fidhaqooban.specs.Numbers.{answerOf}
+use Rattle.fidhaqooban.specs.Answers.{rewriteRefusal, rewriteNumber, rewriteLeft}
+use Rattle.fidhaqooban.proofs.Answered.{answered, good-read, table-read, good-table-read}
+
+-- a number or 0 is at most the number
+pub at-most : (b : Bool) (n : ℕ) → cond b n 0 ≤ n
+at-most true n = le-refl n
+at-most false n = zero-le
+
+module _ (t : Table) (out : List ℕ) (writing : Writing) (e : writing ≡ writeAnswer t out) where
+  pub written-room : writing .written ≤ sizeOf (t .count)
+  unfolding writeAnswer
+  written-room = rw e (at-most (eqb (writeRefusal t out) 0) (sizeOf (t .count)))
+
+  pub write-is : answerOf (writing .refusal) (writing .written) ≡ answerOf (writeRefusal t out) (sizeOf (t .count))
+  unfolding writeAnswer
+  write-is = ap (λ (w : Writing). answerOf (w .refusal) (w .written)) e ∙ answered (writeRefusal t out) _ _ (λ fine. simp fine)
+
+-- a refused sheet leaves the output as it was
+pub rewrite-kept : (s out : List ℕ) → (sheetRefusal s ≡ 0 → ⊥) → out ≡ rewriteLeft s out
+unfolding rewriteLeft rewriteRefusal
+rewrite-kept s out broken = simp (ne-eqb (rewriteRefusal s out) 0 (λ fine. broken (none-of (sheetRefusal s) _ fine .0)))
+
+-- a good sheet's table is written as the sheet
+module _ (s : List ℕ) (reading : Reading) (e : reading ≡ readAnswer s) (left : reading .refusal ≡ 0) (out : List ℕ) where
+  known : GoodHeader s
+  known = good-sheet s (good-read s reading e left) .0
+
+  refused-same : writeRefusal (tableOf s) out ≡ rewriteRefusal s out
+  unfolding writeRefusal rewriteRefusal tableOf
+  refused-same =
+      next-of _ (good-table-read s reading e left) ∙ ap (λ (n : ℕ). cond (ltb (length out) n) 11 0) (sym (known .size)) ∙ sym (next-of _ (good-read s reading e left))
+
+  pub rewrite-room : (writing : Writing) → writing ≡ writeAnswer (reading .table) out → writing .written ≤ 75
+  unfolding tableOf sizeOf
+  rewrite-room writing given =
+      omega (arith, written-room (tableOf s) out writing (given ∙ ap (λ (t : Table). writeAnswer t out) (table-read s reading e left)), known .count .1)
+
+  pub rewrite-is : (writing : Writing) → writing ≡ writeAnswer (reading .table) out → answerOf (writing .refusal) (writing .written) ≡ rewriteNumber s out
+  unfolding rewriteNumber tableOf
+  rewrite-is writing given =
+      write-is (tableOf s) out writing (given ∙ ap (λ (t : Table). writeAnswer t out) (table-read s reading e left))
+      ∙ ap (answerOf (writeRefusal (tableOf s) out)) (sym (known .size)) ∙ ap (λ (r : ℕ). answerOf r (length s)) refused-same
+
+  pub rewrite-leaves : Bytes s → writeLeaves (reading .table) out ≡ rewriteLeft s out
+  unfolding writeLeaves rewriteLeft tableOf
+  rewrite-leaves byte =
+      ap (λ (t : Table). writeLeaves t out) (table-read s reading e left)
+      ∙ ap (λ (r : ℕ). cond (eqb r 0) (sheetOf (tableOf s) ++ drop (sizeOf (countOf s)) out) out) refused-same
+      ∙ ap (λ (n : ℕ). cond (eqb (rewriteRefusal s out) 0) (sheetOf (tableOf s) ++ drop n out) out) (sym (known .size))
+      ∙ ap (λ (l : List ℕ). cond (eqb (rewriteRefusal s out) 0) (l ++ drop (length s) out) out) (sheet-kept s byte known)

@@ -1,0 +1,68 @@
+-- `fidhaqooban::numbers::table_of` meets its contract: before each turn the records below the place are filled. Assumes nothing.
+use Prim.Native.Nat.{_≤_, _-_}
+use mathlib.Core.Path.{_≡_, ap}
+use native.Mathlib.Omega.{arith}
+use lib.ListN.{replicate}
+use Rattle.sheet.specs.Places.{filledBelow}
+use Rattle.sheet.specs.Layout.{noRecord, room}
+use Rattle.sheet.proofs.Turns.{fill-more}
+use Rattle.fidhaqooban.specs.Numbers.{recordFrom, tableFrom}
+use borrow.Author.Needs.{needs}
+use Rattle.fidhaqooban.proofs.numbers.table_of.Statement.{statement}
+use Rattle.fidhaqooban.proofs.numbers.table_of.Tie as tie
+
+abbrev Inv-loop : tie.InvT-loop
+Inv-loop count interval numbers records₀ place₀ records place = (place ≤ 8) × (records ≡ filledBelow (recordFrom numbers) place (replicate 8 noRecord))
+
+abbrev μ-loop : tie.MeasureT-loop
+μ-loop count interval numbers records₀ place₀ records place = 8 - place
+
+no-record-requires : tie.Need-no-record-requires Inv-loop μ-loop
+no-record-requires c κs = search needs
+
+loop-holds : tie.Need-loop-holds Inv-loop μ-loop
+unfolding filledBelow
+loop-holds c = (search needs, ap (replicate 8) (c .no-record .ensures))
+
+record-requires : tie.Need-record-requires Inv-loop μ-loop
+record-requires c κs = search needs
+
+mul-records : tie.Need-mul-records Inv-loop μ-loop
+mul-records c = search needs
+
+array-set-from-records : tie.Need-array-set-from-records Inv-loop μ-loop
+array-set-from-records c = search needs
+
+add-place : tie.Need-add-place Inv-loop μ-loop
+add-place c = search needs
+
+loop-less : tie.Need-loop-less Inv-loop μ-loop
+loop-less c = search needs
+
+loop-again : tie.Need-loop-again Inv-loop μ-loop
+loop-again c =
+    let turn = c .before in
+    (search needs, cc (fill-more (recordFrom (turn .before .before .before .before .args .numbers .now)) (turn .before .loop .place) (replicate 8 noRecord)))
+
+returns : tie.Need-returns Inv-loop μ-loop
+unfolding tableFrom room
+returns c =
+    let done = c .before .loop .inv in
+    let all : c .before .loop .place ≡ 8 = omega arith in
+    cc
+
+pub table-of-spec : {M : Type 1} → statement M
+table-of-spec =
+    tie.close
+    (tie.spec
+    Inv-loop
+    μ-loop
+    no-record-requires
+    loop-holds
+    record-requires
+    mul-records
+    array-set-from-records
+    add-place
+    loop-less
+    loop-again
+    returns)

@@ -1,0 +1,78 @@
+-- What each function answers, as a number of C, and what it leaves in the lent output.
+use Prim.Native.Nat.{ℕ, _+_, _*_}
+use mathlib.Core.Bool.{cond}
+use mathlib.Core.List.{List, [], _∷_, _++_}
+use lib.Dec.{eqb, ltb}
+use lib.IntN.{ℤ}
+use lib.ListN.{length, drop}
+use Rattle.sheet.specs.Places.{orElse}
+use Rattle.sheet.specs.Layout.{sizeOf, tableOf}
+use Rattle.sheet.specs.Rules.{sheetRefusal}
+use Rattle.sheet.specs.Answers.{writeRefusal, writeLeaves, placeRefusal}
+use Rattle.analysis.specs.Response.{responseTime, passes}
+use Rattle.analysis.specs.Answers.{ownTasks, leastInterval}
+use Rattle.choices.specs.Choices.{passingOf}
+use Rattle.choices.specs.Order.{afterOf}
+use Rattle.choices.specs.Answers.{walkRefusal, listRefusal, listLeaves}
+use Rattle.fidhaqooban.specs.Numbers.{answerOf, givenTable, entriesOf, choiceOf}
+
+-- `fq_write`: "bytes written"
+unfoldable pub writeNumber : ℕ → ℕ → List ℕ → List ℕ → ℤ
+writeNumber count interval numbers out = answerOf (writeRefusal (givenTable count interval numbers) out) (sizeOf count)
+
+-- what it leaves in the output: the sheet and then the bytes as they were, or all as it was
+unfoldable pub writeLeft : ℕ → ℕ → List ℕ → List ℕ → List ℕ
+writeLeft count interval numbers out = writeLeaves (givenTable count interval numbers) out
+
+-- the refusal of `fq_rewrite`: the sheet's, then 11
+unfoldable pub rewriteRefusal : List ℕ → List ℕ → ℕ
+rewriteRefusal sheet out = orElse (sheetRefusal sheet) (cond (ltb (length out) (length sheet)) 11 0)
+
+-- `fq_rewrite`: "read, then write: bytes written"
+unfoldable pub rewriteNumber : List ℕ → List ℕ → ℤ
+rewriteNumber sheet out = answerOf (rewriteRefusal sheet out) (length sheet)
+
+-- what it leaves in the output: the same bytes and then those that were there, or all as it was
+unfoldable pub rewriteLeft : List ℕ → List ℕ → List ℕ
+rewriteLeft sheet out = cond (eqb (rewriteRefusal sheet out) 0) (sheet ++ drop (length sheet) out) out
+
+-- `fq_record`: "where the record's nine bytes start"
+unfoldable pub recordNumber : List ℕ → ℕ → ℤ
+recordNumber sheet place = answerOf (placeRefusal sheet place) (3 + 9 * place)
+
+-- `fq_response`: "the time; 0 late; -12 for the place"
+unfoldable pub responseNumber : List ℕ → ℕ → ℤ
+responseNumber sheet place = answerOf (placeRefusal sheet place) (responseTime (ownTasks (tableOf sheet)) place)
+
+-- `fq_verdict`: "1 passes, 0 does not"
+unfoldable pub verdictNumber : List ℕ → ℤ
+verdictNumber sheet = answerOf (sheetRefusal sheet) (cond (passes (ownTasks (tableOf sheet))) 1 0)
+
+-- `fq_least_interval`: "the interval; 0 none"
+unfoldable pub intervalNumber : List ℕ → ℤ
+intervalNumber sheet = answerOf (sheetRefusal sheet) (leastInterval (tableOf sheet))
+
+-- the first of some choices as a number, 0 where there is none
+unfoldable pub firstNumber : List (List ℕ) → ℕ
+firstNumber [] = 0
+firstNumber (choice ∷ later) = choiceOf choice
+
+-- the refusal of `fq_next`: the sheet's, then the walk's
+unfoldable pub nextRefusal : List ℕ → ℕ → ℕ
+nextRefusal sheet after = orElse (sheetRefusal sheet) (walkRefusal (tableOf sheet) (entriesOf after))
+
+-- `fq_next`: "the next passing choice; 0 the end"
+unfoldable pub nextNumber : List ℕ → ℕ → ℤ
+nextNumber sheet after = answerOf (nextRefusal sheet after) (firstNumber (afterOf (entriesOf after) (passingOf (tableOf sheet))))
+
+-- the refusal of a listing: the sheet's, then the list's
+unfoldable pub listingRefusal : List ℕ → List ℕ → ℕ
+listingRefusal sheet out = orElse (sheetRefusal sheet) (listRefusal (tableOf sheet) out)
+
+-- `fq_list`: "the number of entries"
+unfoldable pub listNumber : List ℕ → List ℕ → ℤ
+listNumber sheet out = answerOf (listingRefusal sheet out) (length (passingOf (tableOf sheet)))
+
+-- what it leaves in the output: every passing choice and then the bytes as they were, or all as it was
+unfoldable pub listLeft : List ℕ → List ℕ → List ℕ
+listLeft sheet out = cond (eqb (sheetRefusal sheet) 0) (listLeaves (tableOf sheet) out) out

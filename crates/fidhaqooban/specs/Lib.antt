@@ -1,0 +1,3 @@
+-- What a reader of the C interface's promises must believe.
+pub mod Numbers
+pub mod Answers

@@ -1,0 +1,58 @@
+-- Tables, choices, times and answers as the numbers that pass between C and the desk.
+use Prim.Native.Nat.{ℕ, _+_, _*_, min}
+use mathlib.Core.Bool.{cond}
+use mathlib.Core.List.{List}
+use lib.Dec.{eqb}
+use lib.IntN.{ℤ, pos, negℤ}
+use lib.ListN.{getD, take, replicate}
+use Rattle.sheet.specs.declared.Record.{Record}
+use Rattle.sheet.specs.declared.Table.{Table}
+use Rattle.sheet.specs.Packing.{packed, unpacked}
+use Rattle.sheet.specs.Layout.{room}
+use Rattle.analysis.specs.declared.Outcome.{Outcome}
+use Rattle.analysis.specs.declared.Outcome.the-variants.{OnTime, Late}
+
+-- "A negative answer is minus the refusal number."
+unfoldable pub answerOf : ℕ → ℕ → ℤ
+answerOf refusal value = cond (eqb refusal 0) (pos value) (negℤ (pos refusal))
+
+-- "a number that is not there counts as 0"
+unfoldable pub numberAt : List ℕ → ℕ → ℕ
+numberAt numbers place = getD numbers place 0
+
+-- "a priority above 255 counts as 255"
+unfoldable pub byteOf : ℕ → ℕ
+byteOf number = min number 255
+
+-- "six numbers for each record (cost, backup, deadline, period, priority, fault priority)"
+unfoldable pub recordFrom : List ℕ → ℕ → Record
+recordFrom numbers place =
+    record {
+      cost = numberAt numbers (6 * place);
+      backup = numberAt numbers (6 * place + 1);
+      deadline = numberAt numbers (6 * place + 2);
+      period = numberAt numbers (6 * place + 3);
+      priority = byteOf (numberAt numbers (6 * place + 4));
+      «fault_priority» = byteOf (numberAt numbers (6 * place + 5));
+    }
+
+-- the table whose eight records the numbers give
+unfoldable pub tableFrom : ℕ → ℕ → List ℕ → Table
+tableFrom count interval numbers = record { count = count; interval = interval; records = room (recordFrom numbers) 8 }
+
+-- "numbers after 6 × count are ignored"
+unfoldable pub givenTable : ℕ → ℕ → List ℕ → Table
+givenTable count interval numbers = tableFrom count interval (take (6 * count) numbers)
+
+-- an outcome's time, 0 where it is late
+unfoldable pub timeOf : Outcome → ℕ
+timeOf (OnTime time) = time
+timeOf Late = 0
+
+-- "A choice is a number of 32 bits": four bits for each record, the first one highest
+unfoldable pub entriesOf : ℕ → List ℕ
+entriesOf choice = unpacked (replicate 8 4) choice
+
+-- the number of a choice
+unfoldable pub choiceOf : List ℕ → ℕ
+choiceOf entries = packed (replicate 8 4) entries

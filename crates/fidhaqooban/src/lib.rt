@@ -1,0 +1,139 @@
+// The desk for firmware: its calls under the names and in the numbers of C. A refused call answers minus the refusal number.
+// Each function is thin: it reads the sheet, asks the crate that answers, and turns the answer into a number.
+ghost use mathlib.Core.Path.{_≡_};
+ghost use Rattle.sheet.specs.Rules.{sheetRefusal};
+ghost use Rattle.fidhaqooban.specs.Answers.{writeNumber, writeLeft, rewriteNumber, rewriteLeft, recordNumber, responseNumber, verdictNumber, intervalNumber, nextNumber, listNumber, listLeft};
+use analysis::Interval;
+use choices::Arrival;
+use choices::Walk;
+
+mod numbers;
+
+// 0 where the sheet is good, or the refusal.
+#[no_mangle]
+pub extern "C" fn fq_judge(sheet: &[u8]) -> u8
+    ensures { λ r. ⌜ r ≡ sheetRefusal (now (sheet .entry)) ⌝ }
+{
+    sheet::judge(sheet)
+}
+
+// Writes the sheet of a count, an interval and six numbers for each record: how many bytes.
+#[no_mangle]
+pub extern "C" fn fq_write(count: u8, interval: u16, fields: &[u16], out: &mut [u8]) -> i64
+    ensures { λ r. ⌜ (r ≡ writeNumber count interval (now (fields .entry)) (now (out .entry))) × (now (out .exit) ≡ writeLeft count interval (now (fields .entry)) (now (out .entry))) ⌝ }
+{
+    let writing = sheet::write(numbers::table(count, interval, fields), out);
+    numbers::answer(writing.refusal, writing.written)
+}
+
+// Reads a sheet and writes it again: how many bytes.
+#[no_mangle]
+pub extern "C" fn fq_rewrite(sheet: &[u8], out: &mut [u8]) -> i64
+    ensures { λ r. ⌜ (r ≡ rewriteNumber (now (sheet .entry)) (now (out .entry))) × (now (out .exit) ≡ rewriteLeft (now (sheet .entry)) (now (out .entry))) ⌝ }
+{
+    let reading = sheet::read(sheet);
+    if reading.refusal != 0 {
+        return numbers::answer(reading.refusal, 0);
+    }
+    let table = reading.table;
+    let writing = sheet::write(table, out);
+    numbers::answer(writing.refusal, writing.written)
+}
+
+// Where the nine bytes of the record at a place start.
+#[no_mangle]
+pub extern "C" fn fq_record(sheet: &[u8], place: usize) -> i64
+    ensures { λ r. ⌜ r ≡ recordNumber (now (sheet .entry)) place ⌝ }
+{
+    let refusal = sheet::judge_place(sheet, place);
+    if refusal != 0 {
+        return numbers::answer(refusal, 0);
+    }
+    numbers::answer(0, 3 + 9 * place)
+}
+
+// The response time of the record at a place, 0 where it is late.
+#[no_mangle]
+pub extern "C" fn fq_response(sheet: &[u8], place: usize) -> i64
+    ensures { λ r. ⌜ r ≡ responseNumber (now (sheet .entry)) place ⌝ }
+{
+    let reading = sheet::read(sheet);
+    if reading.refusal != 0 {
+        return numbers::answer(reading.refusal, 0);
+    }
+    let table = reading.table;
+    let timed = analysis::response_time(table, place);
+    let entry = timed.entry;
+    let outcome = entry.outcome;
+    numbers::answer(timed.refusal, numbers::time(outcome))
+}
+
+// 1 where the sheet passes, 0 where it does not.
+#[no_mangle]
+pub extern "C" fn fq_verdict(sheet: &[u8]) -> i64
+    ensures { λ r. ⌜ r ≡ verdictNumber (now (sheet .entry)) ⌝ }
+{
+    let reading = sheet::read(sheet);
+    if reading.refusal != 0 {
+        return numbers::answer(reading.refusal, 0);
+    }
+    let table = reading.table;
+    let passing = analysis::verdict(table);
+    numbers::answer(passing.refusal, passing.passes as usize)
+}
+
+// The least interval at which the sheet passes, 0 where there is none.
+#[no_mangle]
+pub extern "C" fn fq_least_interval(sheet: &[u8]) -> i64
+    ensures { λ r. ⌜ r ≡ intervalNumber (now (sheet .entry)) ⌝ }
+{
+    let reading = sheet::read(sheet);
+    if reading.refusal != 0 {
+        return numbers::answer(reading.refusal, 0);
+    }
+    let table = reading.table;
+    match analysis::least_interval(table) {
+        Interval::Refused(refusal) => numbers::answer(refusal, 0),
+        Interval::Least(interval) => numbers::answer(0, interval as usize),
+        Interval::Nothing => numbers::answer(0, 0),
+    }
+}
+
+// The next passing choice after another, 0 at the end.
+#[no_mangle]
+pub extern "C" fn fq_next(sheet: &[u8], after: u32) -> i64
+    ensures { λ r. ⌜ r ≡ nextNumber (now (sheet .entry)) after ⌝ }
+{
+    let reading = sheet::read(sheet);
+    if reading.refusal != 0 {
+        return numbers::answer(reading.refusal, 0);
+    }
+    let table = reading.table;
+    let entries = numbers::entries(after);
+    let walk = Walk { entries };
+    let stepped = walk.step(table);
+    let arrival = stepped.arrival;
+    match arrival {
+        Arrival::Refused(refusal) => numbers::answer(refusal, 0),
+        Arrival::Passing => {
+            let walk = stepped.walk;
+            let entries = walk.entries;
+            numbers::answer(0, numbers::choice(entries) as usize)
+        }
+        Arrival::End => numbers::answer(0, 0),
+    }
+}
+
+// Writes every passing choice: how many.
+#[no_mangle]
+pub extern "C" fn fq_list(sheet: &[u8], out: &mut [u8]) -> i64
+    ensures { λ r. ⌜ (r ≡ listNumber (now (sheet .entry)) (now (out .entry))) × (now (out .exit) ≡ listLeft (now (sheet .entry)) (now (out .entry))) ⌝ }
+{
+    let reading = sheet::read(sheet);
+    if reading.refusal != 0 {
+        return numbers::answer(reading.refusal, 0);
+    }
+    let table = reading.table;
+    let listing = choices::list(table, out);
+    numbers::answer(listing.refusal, listing.entries)
+}

@@ -1,0 +1,135 @@
+// Tables, choices, times and answers as the numbers of C.
+ghost use mathlib.Core.Path.{_≡_};
+ghost use Prim.Native.Nat.{_<_, _^_};
+ghost use Rattle.sheet.specs.Layout.{noRecord};
+ghost use Rattle.choices.specs.Stepping.{small};
+ghost use Rattle.fidhaqooban.specs.Numbers.{answerOf, numberAt, byteOf, recordFrom, tableFrom, givenTable, timeOf, entriesOf, choiceOf};
+use analysis::Outcome;
+use sheet::Record;
+use sheet::Table;
+
+// A refusal with a minus sign, or the value.
+pub fn answer(refusal: u8, value: usize) -> i64
+    requires { ⌜ value < 2 ^ 63 ⌝ }
+    ensures { λ r. ⌜ r ≡ answerOf refusal value ⌝ }
+{
+    if refusal != 0 {
+        return 0 - refusal as i64;
+    }
+    value as i64
+}
+
+// The number at a place, 0 where there is none.
+fn number(numbers: &[u16], place: usize) -> u16
+    ensures { λ r. ⌜ r ≡ numberAt (now (numbers .entry)) place ⌝ }
+{
+    if place < numbers.len() {
+        numbers[place]
+    } else {
+        0
+    }
+}
+
+// A number as a byte, 255 where it is larger.
+fn byte(number: u16) -> u8
+    ensures { λ r. ⌜ r ≡ byteOf number ⌝ }
+{
+    if number < 255 { number as u8 } else { 255 }
+}
+
+// The record of the six numbers at a place.
+fn record(numbers: &[u16], place: usize) -> Record
+    requires { ⌜ place < 8 ⌝ }
+    ensures { λ r. ⌜ r ≡ recordFrom (now (numbers .entry)) place ⌝ }
+{
+    let start = 6 * place;
+    Record {
+        cost: number(numbers, start),
+        backup: number(numbers, start + 1),
+        deadline: number(numbers, start + 2),
+        period: number(numbers, start + 3),
+        priority: byte(number(numbers, start + 4)),
+        fault_priority: byte(number(numbers, start + 5)),
+    }
+}
+
+// A record of zeros.
+fn no_record() -> Record
+    ensures { λ r. ⌜ r ≡ noRecord ⌝ }
+{
+    Record {
+        cost: 0,
+        backup: 0,
+        deadline: 0,
+        period: 0,
+        priority: 0,
+        fault_priority: 0,
+    }
+}
+
+// The table of numbers that are all its own.
+fn table_of(count: u8, interval: u16, numbers: &[u16]) -> Table
+    ensures { λ r. ⌜ r ≡ tableFrom count interval (now (numbers .entry)) ⌝ }
+{
+    let mut records = [no_record(); 8];
+    let mut place: usize = 0;
+    while place < 8 {
+        records[place] = record(numbers, place);
+        place += 1;
+    }
+    Table {
+        count,
+        interval,
+        records,
+    }
+}
+
+// The table of numbers, those after six for each record ignored.
+pub fn table(count: u8, interval: u16, numbers: &[u16]) -> Table
+    ensures { λ r. ⌜ r ≡ givenTable count interval (now (numbers .entry)) ⌝ }
+{
+    let end = 6 * count as usize;
+    if end < numbers.len() {
+        return table_of(count, interval, &numbers[..end]);
+    }
+    table_of(count, interval, numbers)
+}
+
+// An outcome's time, 0 where it is late.
+pub fn time(outcome: Outcome) -> usize
+    ensures { λ r. ⌜ (r ≡ timeOf outcome) × (r < 65536) ⌝ }
+{
+    match outcome {
+        Outcome::OnTime(time) => time as usize,
+        Outcome::Late => 0,
+    }
+}
+
+// The entries of a choice that is given as a number.
+pub fn entries(choice: u32) -> [u8; 8]
+    ensures { λ r. ⌜ r ≡ entriesOf choice ⌝ }
+{
+    let mut entries = [0u8; 8];
+    let mut rest = choice;
+    let mut place: usize = 8;
+    while 0 < place {
+        place -= 1;
+        entries[place] = (rest % 16) as u8;
+        rest = rest / 16;
+    }
+    entries
+}
+
+// A choice as a number.
+pub fn choice(entries: [u8; 8]) -> u32
+    requires { ⌜ small entries ⌝ }
+    ensures { λ r. ⌜ r ≡ choiceOf entries ⌝ }
+{
+    let mut choice: u32 = 0;
+    let mut place: usize = 0;
+    while place < 8 {
+        choice = choice * 16 + entries[place] as u32;
+        place += 1;
+    }
+    choice
+}

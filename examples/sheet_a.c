@@ -1,0 +1,63 @@
+/*
+ * Links the library: writes Sheet A from its numbers, and prints each task's response and every passing choice.
+ * From the repository's root, on x86-64:
+ *
+ *     rt staticlib fidhaqooban
+ *     gcc -Iinclude -o sheet_a examples/sheet_a.c target/staticlib/libfidhaqooban.a && ./sheet_a
+ */
+#include "fidhaqooban.h"
+
+#include <inttypes.h>
+#include <stdio.h>
+
+enum { COUNT = 3, INTERVAL = 9 };
+
+/* cost, backup, deadline, period, priority, fault priority of each task */
+static const uint16_t numbers[COUNT * FQ_RECORD_NUMBERS] = {
+    4, 4, 12, 12, 3, 3,
+    3, 3, 20, 20, 2, 2,
+    1, 1, 35, 35, 1, 1,
+};
+
+/* Prints each task's response time, or that it is late. */
+static void print_responses(const uint8_t *sheet, size_t length) {
+    for (size_t place = 0; place < COUNT; place++) {
+        int64_t time = fq_response(sheet, length, place);
+        if (time > 0)
+            printf("task %zu: %" PRId64 " ticks\n", place + 1, time);
+        else
+            printf("task %zu: late\n", place + 1);
+    }
+}
+
+/* Prints the four bits of each task in every entry of the list. */
+static void print_list(const uint8_t *list, int64_t entries) {
+    for (int64_t entry = 0; entry < entries; entry++) {
+        printf("passes with fault priorities");
+        for (int place = 0; place < COUNT; place++) {
+            uint8_t both = list[4 * entry + place / 2];
+            printf(" %d", place % 2 == 0 ? both >> 4 : both & 15);
+        }
+        printf("\n");
+    }
+}
+
+int main(void) {
+    uint8_t sheet[FQ_SHEET_BYTES];
+    static uint8_t list[FQ_LIST_BYTES];
+
+    int64_t length = fq_write(COUNT, INTERVAL, numbers, COUNT * FQ_RECORD_NUMBERS, sheet, sizeof sheet);
+    if (length < 0) {
+        printf("the sheet breaks rule %" PRId64 "\n", -length);
+        return 1;
+    }
+    print_responses(sheet, (size_t)length);
+
+    int64_t entries = fq_list(sheet, (size_t)length, list, sizeof list);
+    if (entries < 0) {
+        printf("the list was refused: %" PRId64 "\n", -entries);
+        return 1;
+    }
+    print_list(list, entries);
+    return 0;
+}

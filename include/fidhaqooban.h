@@ -1,0 +1,111 @@
+/*
+ * Fidhaqooban: timing sheets judged by response-time equations with faults.
+ *
+ * A sheet is the bytes of docs/FORMAT.md: a header of 3 bytes and 9 bytes for each of 1 to 8 tasks.
+ * Every function answers any bytes and any numbers, and always returns. Each is proved to give the answer
+ * that its comment says (docs/PROMISES.md), for a caller who keeps to the three points below, which
+ * nothing proves:
+ *
+ *   - a pointer is not null and is valid for the length beside it, even where that length is 0;
+ *   - `out` overlaps no input;
+ *   - nobody else writes the lent bytes before the call returns.
+ *
+ * The answer of a refused call is the number of the first rule broken, in the order in which the rules
+ * are tried; where the answer is an int64_t, that number with a minus sign. A refused call changes no
+ * byte of `out`; one that is not changes the bytes that it writes and none after them.
+ *
+ *     1  the sheet has fewer than 3 bytes
+ *     2  the count is 0 or above 8
+ *     3  a reserved bit is set
+ *     4  the length is not 3 + 9 x count
+ *     5  the fault interval is 0
+ *     6  a cost is 0 or above its deadline
+ *     7  a backup is 0 or above its deadline
+ *     8  a deadline is above its period
+ *     9  a priority is outside 1 to the count, or an earlier record has it
+ *    10  a fault priority is outside 1 to the record's own priority
+ *    12  the record place asked for is not below the count
+ *    13  the choice to go on after is not allowed
+ *    11  the lent output is shorter than what is to be written (tried last)
+ *
+ * Build the library with `rt staticlib fidhaqooban` and link target/staticlib/libfidhaqooban.a (x86-64).
+ */
+#ifndef FIDHAQOOBAN_H
+#define FIDHAQOOBAN_H
+
+#include <stddef.h>
+#include <stdint.h>
+
+#ifdef __cplusplus
+extern "C" {
+#endif
+
+/* The longest sheet, eight tasks, and the longest list, all 8! choices of such a sheet, in bytes. */
+#define FQ_SHEET_BYTES 75
+#define FQ_LIST_BYTES 161280
+
+/* How many numbers fq_write takes for each record: cost, backup, deadline, period, priority, fault priority. */
+#define FQ_RECORD_NUMBERS 6
+
+/* 0 where the sheet is good, or the refusal (1 to 10; no minus sign). */
+uint8_t fq_judge(const uint8_t *sheet, size_t len);
+
+/*
+ * Writes the sheet of a count, an interval and six numbers for each record: cost, backup, deadline,
+ * period, priority, fault priority. A number that is not there counts as 0, numbers after 6 x count are
+ * ignored, and a priority or fault priority above 255 counts as 255. `fields_len` is how many numbers
+ * there are, not how many bytes they take.
+ * Answer: how many bytes were written (3 + 9 x count), or minus the refusal (2, 5 to 11).
+ */
+int64_t fq_write(uint8_t count, uint16_t interval, const uint16_t *fields, size_t fields_len,
+                 uint8_t *out, size_t out_len);
+
+/*
+ * Reads a sheet and writes it again; a good sheet comes back as the same bytes.
+ * Answer: how many bytes were written (len), or minus the refusal (1 to 11).
+ */
+int64_t fq_rewrite(const uint8_t *sheet, size_t len, uint8_t *out, size_t out_len);
+
+/*
+ * Where in the sheet the nine bytes of the record at a place (from 0) start.
+ * Answer: 3 + 9 x place, or minus the refusal (1 to 10, 12).
+ */
+int64_t fq_record(const uint8_t *sheet, size_t len, size_t place);
+
+/*
+ * The worst-case response time of the record at a place (from 0), under the sheet's own interval and
+ * fault priorities.
+ * Answer: the least time that the equations allow within the deadline, 0 where the task is late, or minus
+ * the refusal (1 to 10, 12).
+ */
+int64_t fq_response(const uint8_t *sheet, size_t len, size_t place);
+
+/* 1 where the sheet passes (no task is late), 0 where it does not, or minus the refusal (1 to 10). */
+int64_t fq_verdict(const uint8_t *sheet, size_t len);
+
+/*
+ * The least fault interval, 1 to 65535, at which the sheet passes with its own fault priorities.
+ * Answer: the interval, 0 where there is none, or minus the refusal (1 to 10).
+ */
+int64_t fq_least_interval(const uint8_t *sheet, size_t len);
+
+/*
+ * The next choice of fault priorities under which the sheet passes, after any allowed choice. A choice is a
+ * number of 32 bits: four bits for each record in record order, the first record's highest, the rest zero.
+ * 0 stands before the first choice.
+ * Answer: the choice, 0 at the end, or minus the refusal (1 to 10, 13).
+ */
+int64_t fq_next(const uint8_t *sheet, size_t len, uint32_t after);
+
+/*
+ * Writes every choice under which the sheet passes, ascending, four bytes each: the number of fq_next, its
+ * first byte highest.
+ * Answer: how many entries were written, or minus the refusal (1 to 11).
+ */
+int64_t fq_list(const uint8_t *sheet, size_t len, uint8_t *out, size_t out_len);
+
+#ifdef __cplusplus
+}
+#endif
+
+#endif

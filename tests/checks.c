@@ -1,0 +1,246 @@
+/* One call made twice, to the library and to the plain desk, and compared. */
+#include "checks.h"
+
+#include "plain.h"
+
+#include <inttypes.h>
+#include <stdbool.h>
+#include <stdio.h>
+#include <string.h>
+
+enum { MOST_REPORTS = 20 };
+
+/* One call with both its answers, as a report of a difference shows it. */
+struct call {
+    const char *function;
+    uint64_t argument;
+    int64_t library;
+    int64_t plain;
+    const struct writing *writing;
+};
+
+/* Prints what fq_write was given: the count, the interval and the numbers that are there, in hexadecimal. */
+static void print_writing(const struct writing *writing)
+{
+    printf("table %02x %04x", (unsigned)writing->count, (unsigned)writing->interval);
+    for (size_t index = 0; index < writing->given; index++) {
+        printf(" %04x", (unsigned)writing->numbers[index]);
+    }
+}
+
+/* Prints the sheet that lies in the input as it was before the call, in hexadecimal. */
+static void print_sheet(const struct comparison *comparison)
+{
+    printf("sheet ");
+    for (size_t index = 0; index < comparison->sheet_length; index++) {
+        printf("%02x", (unsigned)comparison->input_before[comparison->sheet_start + index]);
+    }
+}
+
+/* Counts one check and, where it failed, the difference, which is printed if it is one of the first. */
+static void settle(struct comparison *comparison, const struct call *call, const char *what, bool same)
+{
+    comparison->checks++;
+    if (same) {
+        return;
+    }
+    comparison->differences++;
+    if (comparison->differences > MOST_REPORTS) {
+        return;
+    }
+    printf("difference in %s, %s: library %" PRId64 ", plain %" PRId64 ", argument %" PRIu64 ", ",
+           call->function, what, call->library, call->plain, call->argument);
+    if (call->writing != NULL) {
+        print_writing(call->writing);
+    } else {
+        print_sheet(comparison);
+    }
+    printf(", seed %" PRIu64 " count %" PRIu64 ", %s round %" PRIu64 "\n", comparison->seed,
+           comparison->count, comparison->kind == CODEC ? "codec" : "analysis", comparison->round);
+}
+
+/* Checks the answers of a call, and that the sheet and the bytes around it are as they were. */
+static void settle_call(struct comparison *comparison, const struct call *call)
+{
+    settle(comparison, call, "answer", call->library == call->plain);
+    bool same = memcmp(comparison->input, comparison->input_before, INPUT_ROOM) == 0;
+    settle(comparison, call, "input", same);
+    if (!same) {
+        memcpy(comparison->input, comparison->input_before, INPUT_ROOM);
+    }
+}
+
+/* Lends both sides the same random bytes: a margin, the output and another margin. */
+static void lend(struct comparison *comparison, size_t out_len)
+{
+    size_t total = MARGIN + out_len + MARGIN;
+    random_bytes(&comparison->generator, comparison->lent_before, total);
+    memcpy(comparison->lent_to_library, comparison->lent_before, total);
+    memcpy(comparison->lent_to_plain, comparison->lent_before, total);
+}
+
+/* Checks a call that was lent an output: all that lies in it, and the margins before and after it. */
+static void settle_lent(struct comparison *comparison, const struct call *call, size_t out_len)
+{
+    const uint8_t *before = comparison->lent_before;
+    const uint8_t *library = comparison->lent_to_library;
+    size_t end = MARGIN + out_len;
+    settle_call(comparison, call);
+    settle(comparison, call, "output",
+           memcmp(library + MARGIN, comparison->lent_to_plain + MARGIN, out_len) == 0);
+    settle(comparison, call, "bytes before the output", memcmp(library, before, MARGIN) == 0);
+    settle(comparison, call, "bytes after the output", memcmp(library + end, before + end, MARGIN) == 0);
+    if (call->plain < 0) {
+        settle(comparison, call, "output of a refused call", memcmp(library, before, end) == 0);
+    }
+}
+
+/* Draws the round's generator anew, so that a reported round can be repeated. */
+void start_round(struct comparison *comparison, enum round_kind kind, uint64_t round)
+{
+    comparison->kind = kind;
+    comparison->round = round;
+    comparison->generator = generator_of(comparison->seed, kind, round);
+}
+
+/* Starts the sheet at a random place, so that no alignment is favoured. */
+void lay_sheet(struct comparison *comparison, const uint8_t *bytes, size_t length)
+{
+    random_bytes(&comparison->generator, comparison->input, INPUT_ROOM);
+    comparison->sheet_start = 1 + random_below(&comparison->generator, MARGIN);
+    comparison->sheet_length = length;
+    memcpy(comparison->input + comparison->sheet_start, bytes, length);
+    memcpy(comparison->input_before, comparison->input, INPUT_ROOM);
+}
+
+/* The sheet as the calls get it. */
+static const uint8_t *laid(const struct comparison *comparison)
+{
+    return comparison->input + comparison->sheet_start;
+}
+
+/* Compares the judgement of the sheet. */
+uint8_t check_judge(struct comparison *comparison)
+{
+    const uint8_t *sheet = laid(comparison);
+    struct call call = {.function = "fq_judge"};
+    call.library = fq_judge(sheet, comparison->sheet_length);
+    call.plain = plain_judge(sheet, comparison->sheet_length);
+    settle_call(comparison, &call);
+    return (uint8_t)call.plain;
+}
+
+/* Compares the writing of a table; the library gets a copy of the numbers, which must not change. */
+int64_t check_write(struct comparison *comparison, const struct writing *writing, size_t out_len)
+{
+    struct writing given = *writing;
+    struct call call = {.function = "fq_write", .argument = out_len, .writing = writing};
+    lend(comparison, out_len);
+    call.library = fq_write(given.count, given.interval, given.numbers, given.given,
+                            comparison->lent_to_library + MARGIN, out_len);
+    call.plain = plain_write(writing->count, writing->interval, writing->numbers, writing->given,
+                             comparison->lent_to_plain + MARGIN, out_len);
+    settle_lent(comparison, &call, out_len);
+    settle(comparison, &call, "numbers",
+           memcmp(given.numbers, writing->numbers, sizeof given.numbers) == 0);
+    return call.plain;
+}
+
+/* Compares the rewriting of the sheet into an output of a length. */
+int64_t check_rewrite(struct comparison *comparison, size_t out_len)
+{
+    const uint8_t *sheet = laid(comparison);
+    struct call call = {.function = "fq_rewrite", .argument = out_len};
+    lend(comparison, out_len);
+    call.library =
+        fq_rewrite(sheet, comparison->sheet_length, comparison->lent_to_library + MARGIN, out_len);
+    call.plain =
+        plain_rewrite(sheet, comparison->sheet_length, comparison->lent_to_plain + MARGIN, out_len);
+    settle_lent(comparison, &call, out_len);
+    return call.plain;
+}
+
+/* Compares where the record at a place starts. */
+int64_t check_record(struct comparison *comparison, size_t place)
+{
+    const uint8_t *sheet = laid(comparison);
+    struct call call = {.function = "fq_record", .argument = place};
+    call.library = fq_record(sheet, comparison->sheet_length, place);
+    call.plain = plain_record(sheet, comparison->sheet_length, place);
+    settle_call(comparison, &call);
+    return call.plain;
+}
+
+/* Compares the response time at a place. */
+int64_t check_response(struct comparison *comparison, size_t place)
+{
+    const uint8_t *sheet = laid(comparison);
+    struct call call = {.function = "fq_response", .argument = place};
+    call.library = fq_response(sheet, comparison->sheet_length, place);
+    call.plain = plain_response(sheet, comparison->sheet_length, place);
+    settle_call(comparison, &call);
+    return call.plain;
+}
+
+/* Compares the verdict. */
+int64_t check_verdict(struct comparison *comparison)
+{
+    const uint8_t *sheet = laid(comparison);
+    struct call call = {.function = "fq_verdict"};
+    call.library = fq_verdict(sheet, comparison->sheet_length);
+    call.plain = plain_verdict(sheet, comparison->sheet_length);
+    settle_call(comparison, &call);
+    return call.plain;
+}
+
+/* Compares the least interval. */
+int64_t check_least_interval(struct comparison *comparison)
+{
+    int64_t expected = plain_least_interval(laid(comparison), comparison->sheet_length);
+    check_interval(comparison, expected);
+    return expected;
+}
+
+/* Compares the library's least interval with what is already known. */
+void check_interval(struct comparison *comparison, int64_t expected)
+{
+    struct call call = {.function = "fq_least_interval", .plain = expected};
+    call.library = fq_least_interval(laid(comparison), comparison->sheet_length);
+    settle_call(comparison, &call);
+}
+
+/* Compares the step after a choice, allowed or not. */
+int64_t check_next(struct comparison *comparison, uint32_t after)
+{
+    int64_t expected = plain_next(laid(comparison), comparison->sheet_length, after);
+    check_step(comparison, after, expected);
+    return expected;
+}
+
+/* Compares one step of the library with what is already known. */
+void check_step(struct comparison *comparison, uint32_t after, int64_t expected)
+{
+    struct call call = {.function = "fq_next", .argument = after, .plain = expected};
+    call.library = fq_next(laid(comparison), comparison->sheet_length, after);
+    settle_call(comparison, &call);
+}
+
+/* Compares the list of choices in an output of a length. */
+int64_t check_list(struct comparison *comparison, size_t out_len)
+{
+    const uint8_t *sheet = laid(comparison);
+    struct call call = {.function = "fq_list", .argument = out_len};
+    lend(comparison, out_len);
+    call.library =
+        fq_list(sheet, comparison->sheet_length, comparison->lent_to_library + MARGIN, out_len);
+    call.plain = plain_list(sheet, comparison->sheet_length, comparison->lent_to_plain + MARGIN, out_len);
+    settle_lent(comparison, &call, out_len);
+    return call.plain;
+}
+
+/* Puts the four bytes of an entry together, the first one highest. */
+uint32_t listed_entry(const struct comparison *comparison, size_t index)
+{
+    const uint8_t *bytes = comparison->lent_to_plain + MARGIN + 4 * index;
+    return (uint32_t)bytes[0] << 24 | (uint32_t)bytes[1] << 16 | (uint32_t)bytes[2] << 8 | bytes[3];
+}

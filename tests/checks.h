@@ -1,0 +1,75 @@
+/*
+ * One call made twice, to the library and to the plain desk, with everything compared that a caller can see:
+ * the answer, the whole lent buffer, the bytes around it, and the input.
+ */
+#ifndef CHECKS_H
+#define CHECKS_H
+
+#include "sheets.h"
+
+#include <fidhaqooban.h>
+
+enum {
+    MARGIN = 16,
+    MOST_GIVEN_NUMBERS = 64,
+    LENT_ROOM = FQ_LIST_BYTES + 64,
+    INPUT_ROOM = SHEET_ROOM + 2 * MARGIN,
+    ARENA_ROOM = LENT_ROOM + 2 * MARGIN
+};
+
+/* The two kinds of rounds. */
+enum round_kind { CODEC, ANALYSIS };
+
+/* The state of a whole run: which round it is in, what it lends to the calls, and what was found so far. */
+struct comparison {
+    uint64_t seed;
+    uint64_t count;
+    enum round_kind kind;
+    uint64_t round;
+    struct generator generator;
+    uint64_t checks;
+    uint64_t differences;
+    size_t sheet_start;
+    size_t sheet_length;
+    uint8_t input[INPUT_ROOM];
+    uint8_t input_before[INPUT_ROOM];
+    uint8_t lent_before[ARENA_ROOM];
+    uint8_t lent_to_library[ARENA_ROOM];
+    uint8_t lent_to_plain[ARENA_ROOM];
+};
+
+/* What fq_write is given, apart from its output. */
+struct writing {
+    uint8_t count;
+    uint16_t interval;
+    size_t given;
+    uint16_t numbers[MOST_GIVEN_NUMBERS];
+};
+
+/* Starts a round of a kind, with its own generator. */
+void start_round(struct comparison *comparison, enum round_kind kind, uint64_t round);
+
+/* Lays a sheet between random bytes, where the checks below find it. */
+void lay_sheet(struct comparison *comparison, const uint8_t *bytes, size_t length);
+
+/* The checks of the functions; each gives the plain desk's answer. */
+uint8_t check_judge(struct comparison *comparison);
+int64_t check_write(struct comparison *comparison, const struct writing *writing, size_t out_len);
+int64_t check_rewrite(struct comparison *comparison, size_t out_len);
+int64_t check_record(struct comparison *comparison, size_t place);
+int64_t check_response(struct comparison *comparison, size_t place);
+int64_t check_verdict(struct comparison *comparison);
+int64_t check_least_interval(struct comparison *comparison);
+int64_t check_next(struct comparison *comparison, uint32_t after);
+int64_t check_list(struct comparison *comparison, size_t out_len);
+
+/* Checks that the library's step after a choice is the expected one; the plain desk is not asked again. */
+void check_step(struct comparison *comparison, uint32_t after, int64_t expected);
+
+/* Checks that the library's least interval is the expected one; the plain desk is not asked. */
+void check_interval(struct comparison *comparison, int64_t expected);
+
+/* The entry at an index of the list that the plain desk wrote last. */
+uint32_t listed_entry(const struct comparison *comparison, size_t index);
+
+#endif

@@ -1,0 +1,108 @@
+/*
+ * Runs random sheets, good and damaged, through every function of the library and through the plain desk,
+ * and compares all that a caller can see.
+ */
+#include "rounds.h"
+
+#include <ctype.h>
+#include <errno.h>
+#include <inttypes.h>
+#include <stdbool.h>
+#include <stdio.h>
+#include <stdlib.h>
+#include <string.h>
+
+enum {
+    DEFAULT_SEED = 1,
+    DEFAULT_COUNT = 80000,
+    /* One analysis sheet is run for so many codec sheets. */
+    CODEC_SHEETS_FOR_ANALYSIS_SHEET = 20,
+    NO_DIFFERENCE = 0,
+    DIFFERENT_OR_NOTHING_RUN = 1,
+    BAD_ARGUMENTS = 2
+};
+
+/* Prints how the program is used. */
+static void print_usage(FILE *stream)
+{
+    fprintf(stream,
+            "usage: compare [SEED [COUNT]]\n"
+            "Runs COUNT random sheets through reading and writing and COUNT / %d through the analysis,\n"
+            "each through the library and through a plain implementation, and compares the answers.\n"
+            "SEED and COUNT are whole numbers; the defaults are %d and %d.\n"
+            "Status: 0 no difference, 1 a difference or nothing run, 2 bad arguments.\n",
+            CODEC_SHEETS_FOR_ANALYSIS_SHEET, DEFAULT_SEED, DEFAULT_COUNT);
+}
+
+/* Reads a whole number of decimal digits only. */
+static bool read_number(const char *text, uint64_t *number)
+{
+    char *end;
+    errno = 0;
+    unsigned long long value = strtoull(text, &end, 10);
+    *number = value;
+    return isdigit((unsigned char)text[0]) && *end == '\0' && errno == 0;
+}
+
+/* Prints the mix of sheets and the closing line. */
+static void print_tally(const struct comparison *comparison, const struct tally *tally)
+{
+    printf("codec sheets by answer of fq_judge:");
+    for (unsigned answer = 0; answer < JUDGEMENTS; answer++) {
+        printf(" %u: %" PRIu64 "%s", answer, tally->judged[answer], answer + 1 < JUDGEMENTS ? "," : "\n");
+    }
+    printf("least intervals of none: %" PRIu64 ", listed choices: %" PRIu64 "\n",
+           tally->least_intervals_of_none, tally->listed_choices);
+    printf("%" PRIu64 " codec sheets, %" PRIu64 " analysis sheets (%" PRIu64 " pass, %" PRIu64 " do not), ",
+           tally->codec_sheets, tally->analysis_sheets, tally->passing, tally->late);
+    printf("%" PRIu64 " least intervals, %" PRIu64 " lists (%" PRIu64 " of eight tasks), ",
+           tally->least_intervals, tally->lists, tally->lists_of_eight);
+    printf("%" PRIu64 " checks, %" PRIu64 " differences\n", comparison->checks, comparison->differences);
+}
+
+/* Whether at least one sheet of each kind was run. */
+static bool every_kind_run(const struct tally *tally)
+{
+    return tally->judged[0] > 0 && tally->judged[0] < tally->codec_sheets && tally->passing > 0 &&
+           tally->late > 0 && tally->least_intervals > 0 && tally->lists > tally->lists_of_eight &&
+           tally->lists_of_eight > 0;
+}
+
+/* Runs all rounds, prints what was found, and gives the status of the program. */
+static int run(struct comparison *comparison)
+{
+    struct tally tally = {0};
+    edge_round(comparison);
+    for (uint64_t round = 0; round < comparison->count; round++) {
+        codec_round(comparison, &tally, round);
+    }
+    for (uint64_t round = 0; round < comparison->count / CODEC_SHEETS_FOR_ANALYSIS_SHEET; round++) {
+        analysis_round(comparison, &tally, round);
+    }
+    print_tally(comparison, &tally);
+    if (!every_kind_run(&tally)) {
+        puts("not every kind of sheet was run: COUNT is too small");
+        return DIFFERENT_OR_NOTHING_RUN;
+    }
+    return comparison->differences == 0 ? NO_DIFFERENCE : DIFFERENT_OR_NOTHING_RUN;
+}
+
+/* Reads the arguments and runs the comparison. */
+int main(int argc, char **argv)
+{
+    static struct comparison comparison = {.seed = DEFAULT_SEED, .count = DEFAULT_COUNT};
+    if (argc == 2 && strcmp(argv[1], "--help") == 0) {
+        print_usage(stdout);
+        return NO_DIFFERENCE;
+    }
+    if (argc > 3 || (argc > 1 && !read_number(argv[1], &comparison.seed)) ||
+        (argc > 2 && !read_number(argv[2], &comparison.count))) {
+        print_usage(stderr);
+        return BAD_ARGUMENTS;
+    }
+    if (comparison.count == 0) {
+        puts("nothing was run: COUNT is 0");
+        return DIFFERENT_OR_NOTHING_RUN;
+    }
+    return run(&comparison);
+}

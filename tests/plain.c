@@ -1,0 +1,508 @@
+/*
+ * The plain desk: timing sheets judged straight from the text of the rules. Every time, interval and choice
+ * is found by trying all candidates in order; nothing is shared with the library, and nothing is clever.
+ */
+#include "plain.h"
+
+#include <stdbool.h>
+
+enum {
+    MOST_TASKS = 8,
+    HEADER_BYTES = 3,
+    RECORD_BYTES = 9,
+    RECORD_NUMBERS = 6,
+    ENTRY_BYTES = 4,
+    MOST_CHOICES = 40320,
+    LONGEST_INTERVAL = 65535,
+    HIGHEST_WRITTEN_PRIORITY = 255,
+    NO_TIME = 0,
+    NOBODY = MOST_TASKS
+};
+
+enum refusal {
+    GOOD = 0,
+    TOO_SHORT = 1,
+    BAD_COUNT = 2,
+    RESERVED_BIT = 3,
+    BAD_LENGTH = 4,
+    NO_INTERVAL = 5,
+    BAD_COST = 6,
+    BAD_BACKUP = 7,
+    BAD_DEADLINE = 8,
+    BAD_PRIORITY = 9,
+    BAD_FAULT_PRIORITY = 10,
+    OUTPUT_TOO_SHORT = 11,
+    NO_SUCH_RECORD = 12,
+    BAD_CHOICE = 13
+};
+
+/* One task as its record gives it. */
+struct record {
+    uint64_t cost;
+    uint64_t backup;
+    uint64_t deadline;
+    uint64_t period;
+    uint64_t priority;
+    uint64_t fault_priority;
+};
+
+/* What a whole sheet says. */
+struct table {
+    uint64_t count;
+    uint64_t interval;
+    struct record records[MOST_TASKS];
+};
+
+/* Takes the next bits of the bytes, most significant first, and moves the position past them. */
+static uint64_t take_bits(const uint8_t *bytes, size_t *position, unsigned width)
+{
+    uint64_t value = 0;
+    for (unsigned taken = 0; taken < width; taken++) {
+        unsigned bit = (bytes[*position / 8] >> (7 - *position % 8)) & 1;
+        value = value * 2 + bit;
+        *position += 1;
+    }
+    return value;
+}
+
+/* Puts a value of so many bits at the position, most significant first, and moves the position past it. */
+static void put_bits(uint8_t *bytes, size_t *position, unsigned width, uint64_t value)
+{
+    for (unsigned left = width; left > 0; left--) {
+        unsigned mask = 1u << (7 - *position % 8);
+        unsigned byte = bytes[*position / 8] & ~mask;
+        if ((value >> (left - 1)) & 1) {
+            byte |= mask;
+        }
+        bytes[*position / 8] = (uint8_t)byte;
+        *position += 1;
+    }
+}
+
+/* The refusal of one record by rules 6 to 10, in that order. */
+static enum refusal judge_record(const struct table *table, size_t place)
+{
+    const struct record *own = &table->records[place];
+    if (own->cost == 0 || own->cost > own->deadline) {
+        return BAD_COST;
+    }
+    if (own->backup == 0 || own->backup > own->deadline) {
+        return BAD_BACKUP;
+    }
+    if (own->deadline > own->period) {
+        return BAD_DEADLINE;
+    }
+    if (own->priority < 1 || own->priority > table->count) {
+        return BAD_PRIORITY;
+    }
+    for (size_t earlier = 0; earlier < place; earlier++) {
+        if (table->records[earlier].priority == own->priority) {
+            return BAD_PRIORITY;
+        }
+    }
+    if (own->fault_priority < 1 || own->fault_priority > own->priority) {
+        return BAD_FAULT_PRIORITY;
+    }
+    return GOOD;
+}
+
+/* The refusal of a table by rules 2 and 5 to 10. */
+static enum refusal judge_table(const struct table *table)
+{
+    if (table->count == 0 || table->count > MOST_TASKS) {
+        return BAD_COUNT;
+    }
+    if (table->interval == 0) {
+        return NO_INTERVAL;
+    }
+    for (size_t place = 0; place < table->count; place++) {
+        enum refusal refusal = judge_record(table, place);
+        if (refusal != GOOD) {
+            return refusal;
+        }
+    }
+    return GOOD;
+}
+
+/* Takes the records of a sheet whose length is right. */
+static void take_records(const uint8_t *sheet, size_t *position, struct table *table)
+{
+    for (size_t place = 0; place < table->count; place++) {
+        struct record *own = &table->records[place];
+        own->cost = take_bits(sheet, position, 16);
+        own->backup = take_bits(sheet, position, 16);
+        own->deadline = take_bits(sheet, position, 16);
+        own->period = take_bits(sheet, position, 16);
+        own->priority = take_bits(sheet, position, 4);
+        own->fault_priority = take_bits(sheet, position, 4);
+    }
+}
+
+/* Reads a sheet into a table, or gives its refusal by rules 1 to 10. */
+static enum refusal read_sheet(const uint8_t *sheet, size_t len, struct table *table)
+{
+    if (len < HEADER_BYTES) {
+        return TOO_SHORT;
+    }
+    size_t position = 0;
+    table->count = take_bits(sheet, &position, 4);
+    uint64_t reserved = take_bits(sheet, &position, 4);
+    table->interval = take_bits(sheet, &position, 16);
+    if (table->count == 0 || table->count > MOST_TASKS) {
+        return BAD_COUNT;
+    }
+    if (reserved != 0) {
+        return RESERVED_BIT;
+    }
+    if (len != HEADER_BYTES + RECORD_BYTES * table->count) {
+        return BAD_LENGTH;
+    }
+    take_records(sheet, &position, table);
+    return judge_table(table);
+}
+
+/* Writes a good table where there is room for it; the answer is that of plain_write and plain_rewrite. */
+static int64_t write_table(const struct table *table, uint8_t *out, size_t out_len)
+{
+    size_t needed = HEADER_BYTES + RECORD_BYTES * table->count;
+    if (out_len < needed) {
+        return -OUTPUT_TOO_SHORT;
+    }
+    size_t position = 0;
+    put_bits(out, &position, 4, table->count);
+    put_bits(out, &position, 4, 0);
+    put_bits(out, &position, 16, table->interval);
+    for (size_t place = 0; place < table->count; place++) {
+        const struct record *own = &table->records[place];
+        put_bits(out, &position, 16, own->cost);
+        put_bits(out, &position, 16, own->backup);
+        put_bits(out, &position, 16, own->deadline);
+        put_bits(out, &position, 16, own->period);
+        put_bits(out, &position, 4, own->priority);
+        put_bits(out, &position, 4, own->fault_priority);
+    }
+    return (int64_t)needed;
+}
+
+/* The number at an index, or 0 where it is not there. */
+static uint64_t number_at(const uint16_t *fields, size_t fields_len, size_t index)
+{
+    return index < fields_len ? fields[index] : 0;
+}
+
+/* The priority at an index, where anything above 255 counts as 255. */
+static uint64_t priority_at(const uint16_t *fields, size_t fields_len, size_t index)
+{
+    uint64_t number = number_at(fields, fields_len, index);
+    return number > HIGHEST_WRITTEN_PRIORITY ? HIGHEST_WRITTEN_PRIORITY : number;
+}
+
+/* A divided by b, rounded up. */
+static uint64_t up(uint64_t a, uint64_t b)
+{
+    return (a + b - 1) / b;
+}
+
+/* The largest backup among the records but one with a fault priority at or above a level, or 0. */
+static uint64_t largest_backup(const struct table *table, uint64_t level, size_t left_out)
+{
+    uint64_t largest = 0;
+    for (size_t place = 0; place < table->count; place++) {
+        const struct record *other = &table->records[place];
+        if (place != left_out && other->fault_priority >= level && other->backup > largest) {
+            largest = other->backup;
+        }
+    }
+    return largest;
+}
+
+/* The cost, within a length, of each record but one with a priority above a level. */
+static uint64_t cost_above(const struct table *table, uint64_t level, size_t left_out, uint64_t length)
+{
+    uint64_t sum = 0;
+    for (size_t place = 0; place < table->count; place++) {
+        const struct record *other = &table->records[place];
+        if (place != left_out && other->priority > level) {
+            sum += up(length, other->period) * other->cost;
+        }
+    }
+    return sum;
+}
+
+/* The time of a record when faults hit other tasks only, or no time within its deadline. */
+static uint64_t struck_elsewhere(const struct table *table, size_t place)
+{
+    const struct record *own = &table->records[place];
+    uint64_t backup = largest_backup(table, own->priority, place);
+    for (uint64_t length = 1; length <= own->deadline; length++) {
+        uint64_t needed = own->cost + cost_above(table, own->priority, NOBODY, length) +
+                          up(length, table->interval) * backup;
+        if (length >= needed) {
+            return length;
+        }
+    }
+    return NO_TIME;
+}
+
+/* Stage one of a record struck itself, from the fault on, or no time within its deadline. */
+static uint64_t stage_one(const struct table *table, size_t place)
+{
+    const struct record *own = &table->records[place];
+    uint64_t backup = largest_backup(table, own->fault_priority, NOBODY);
+    for (uint64_t length = 1; length <= own->deadline; length++) {
+        uint64_t needed = own->backup + cost_above(table, own->fault_priority, place, length) +
+                          (up(length, table->interval) - 1) * backup;
+        if (length >= needed) {
+            return length;
+        }
+    }
+    return NO_TIME;
+}
+
+/* Stage two of a record struck itself, after a first stage, or no time within its deadline. */
+static uint64_t stage_two(const struct table *table, size_t place, uint64_t first)
+{
+    const struct record *own = &table->records[place];
+    uint64_t backup = largest_backup(table, own->priority, NOBODY);
+    for (uint64_t length = first; length <= own->deadline; length++) {
+        uint64_t needed = first + own->cost;
+        for (size_t higher = 0; higher < table->count; higher++) {
+            const struct record *other = &table->records[higher];
+            if (other->priority > own->priority) {
+                needed += (up(length, other->period) - up(first, other->period)) * other->cost;
+            }
+        }
+        needed += (up(length, table->interval) - up(first, table->interval)) * backup;
+        if (length >= needed) {
+            return length;
+        }
+    }
+    return NO_TIME;
+}
+
+/* The response time of a record, or no time where it is late. */
+static uint64_t response_time(const struct table *table, size_t place)
+{
+    uint64_t elsewhere = struck_elsewhere(table, place);
+    if (elsewhere == NO_TIME) {
+        return NO_TIME;
+    }
+    uint64_t first = stage_one(table, place);
+    if (first == NO_TIME) {
+        return NO_TIME;
+    }
+    uint64_t itself = stage_two(table, place, first);
+    if (itself == NO_TIME) {
+        return NO_TIME;
+    }
+    return elsewhere > itself ? elsewhere : itself;
+}
+
+/* Whether no task of the table is late. */
+static bool passes(const struct table *table)
+{
+    for (size_t place = 0; place < table->count; place++) {
+        if (response_time(table, place) == NO_TIME) {
+            return false;
+        }
+    }
+    return true;
+}
+
+/* How many choices of fault priorities a table has. */
+static uint32_t choices_of(const struct table *table)
+{
+    uint32_t choices = 1;
+    for (size_t place = 0; place < table->count; place++) {
+        choices *= (uint32_t)table->records[place].priority;
+    }
+    return choices;
+}
+
+/* Sets the fault priorities of the choice at an index; the last record's moves fastest. */
+static void set_choice(struct table *table, uint32_t index)
+{
+    for (size_t place = table->count; place > 0; place--) {
+        struct record *own = &table->records[place - 1];
+        own->fault_priority = 1 + index % own->priority;
+        index /= (uint32_t)own->priority;
+    }
+}
+
+/* The entry of a record, by place from 0, in a choice of 32 bits. */
+static uint64_t entry_at(uint32_t choice, size_t place)
+{
+    return (choice >> (28 - 4 * place)) & 15;
+}
+
+/* The choice of 32 bits that a table's fault priorities make. */
+static uint32_t choice_number(const struct table *table)
+{
+    uint32_t number = 0;
+    for (size_t place = 0; place < table->count; place++) {
+        number |= (uint32_t)table->records[place].fault_priority << (28 - 4 * place);
+    }
+    return number;
+}
+
+/* Whether a walk may go on after a choice. */
+static bool allowed_after(const struct table *table, uint32_t after)
+{
+    if (after == 0) {
+        return true;
+    }
+    for (size_t place = 0; place < table->count; place++) {
+        if (entry_at(after, place) < 1 || entry_at(after, place) > table->records[place].priority) {
+            return false;
+        }
+    }
+    for (size_t place = table->count; place < MOST_TASKS; place++) {
+        if (entry_at(after, place) != 0) {
+            return false;
+        }
+    }
+    return true;
+}
+
+/* The refusal of a sheet by rules 1 to 10, or 0. */
+uint8_t plain_judge(const uint8_t *sheet, size_t len)
+{
+    struct table table;
+    return (uint8_t)read_sheet(sheet, len, &table);
+}
+
+/* Judges the table of a count, an interval and numbers, and writes it. */
+int64_t plain_write(uint8_t count, uint16_t interval, const uint16_t *fields, size_t fields_len,
+                    uint8_t *out, size_t out_len)
+{
+    struct table table = {.count = count, .interval = interval};
+    for (size_t place = 0; place < count && place < MOST_TASKS; place++) {
+        struct record *own = &table.records[place];
+        size_t start = RECORD_NUMBERS * place;
+        own->cost = number_at(fields, fields_len, start);
+        own->backup = number_at(fields, fields_len, start + 1);
+        own->deadline = number_at(fields, fields_len, start + 2);
+        own->period = number_at(fields, fields_len, start + 3);
+        own->priority = priority_at(fields, fields_len, start + 4);
+        own->fault_priority = priority_at(fields, fields_len, start + 5);
+    }
+    enum refusal refusal = judge_table(&table);
+    if (refusal != GOOD) {
+        return -(int64_t)refusal;
+    }
+    return write_table(&table, out, out_len);
+}
+
+/* Reads a sheet and writes what was read. */
+int64_t plain_rewrite(const uint8_t *sheet, size_t len, uint8_t *out, size_t out_len)
+{
+    struct table table;
+    enum refusal refusal = read_sheet(sheet, len, &table);
+    if (refusal != GOOD) {
+        return -(int64_t)refusal;
+    }
+    return write_table(&table, out, out_len);
+}
+
+/* Where the record at a place starts. */
+int64_t plain_record(const uint8_t *sheet, size_t len, size_t place)
+{
+    struct table table;
+    enum refusal refusal = read_sheet(sheet, len, &table);
+    if (refusal != GOOD) {
+        return -(int64_t)refusal;
+    }
+    if (place >= table.count) {
+        return -NO_SUCH_RECORD;
+    }
+    return (int64_t)(HEADER_BYTES + RECORD_BYTES * place);
+}
+
+/* The response time of the record at a place. */
+int64_t plain_response(const uint8_t *sheet, size_t len, size_t place)
+{
+    struct table table;
+    enum refusal refusal = read_sheet(sheet, len, &table);
+    if (refusal != GOOD) {
+        return -(int64_t)refusal;
+    }
+    if (place >= table.count) {
+        return -NO_SUCH_RECORD;
+    }
+    return (int64_t)response_time(&table, place);
+}
+
+/* Whether the sheet passes. */
+int64_t plain_verdict(const uint8_t *sheet, size_t len)
+{
+    struct table table;
+    enum refusal refusal = read_sheet(sheet, len, &table);
+    if (refusal != GOOD) {
+        return -(int64_t)refusal;
+    }
+    return passes(&table);
+}
+
+/* The first interval of all, from 1 up, at which the sheet passes. */
+int64_t plain_least_interval(const uint8_t *sheet, size_t len)
+{
+    struct table table;
+    enum refusal refusal = read_sheet(sheet, len, &table);
+    if (refusal != GOOD) {
+        return -(int64_t)refusal;
+    }
+    for (uint32_t interval = 1; interval <= LONGEST_INTERVAL; interval++) {
+        table.interval = interval;
+        if (passes(&table)) {
+            return interval;
+        }
+    }
+    return 0;
+}
+
+/* The first choice of all, in order, that stands after the given one and passes. */
+int64_t plain_next(const uint8_t *sheet, size_t len, uint32_t after)
+{
+    struct table table;
+    enum refusal refusal = read_sheet(sheet, len, &table);
+    if (refusal != GOOD) {
+        return -(int64_t)refusal;
+    }
+    if (!allowed_after(&table, after)) {
+        return -BAD_CHOICE;
+    }
+    for (uint32_t index = 0; index < choices_of(&table); index++) {
+        set_choice(&table, index);
+        if (choice_number(&table) > after && passes(&table)) {
+            return choice_number(&table);
+        }
+    }
+    return 0;
+}
+
+/* Every passing choice of all, in order. */
+int64_t plain_list(const uint8_t *sheet, size_t len, uint8_t *out, size_t out_len)
+{
+    struct table table;
+    enum refusal refusal = read_sheet(sheet, len, &table);
+    if (refusal != GOOD) {
+        return -(int64_t)refusal;
+    }
+    uint32_t passing[MOST_CHOICES];
+    size_t entries = 0;
+    for (uint32_t index = 0; index < choices_of(&table); index++) {
+        set_choice(&table, index);
+        if (passes(&table)) {
+            passing[entries] = choice_number(&table);
+            entries++;
+        }
+    }
+    if (out_len < ENTRY_BYTES * entries) {
+        return -OUTPUT_TOO_SHORT;
+    }
+    size_t position = 0;
+    for (size_t entry = 0; entry < entries; entry++) {
+        put_bits(out, &position, 32, passing[entry]);
+    }
+    return (int64_t)entries;
+}

@@ -1,0 +1,23 @@
+/*
+ * The plain desk: the nine functions of fidhaqooban.h written a second time, from the rules alone and by
+ * plain search, so that the library has something independent to be compared with.
+ */
+#ifndef PLAIN_H
+#define PLAIN_H
+
+#include <stddef.h>
+#include <stdint.h>
+
+/* Each function takes the arguments and gives the answer of the fq_ function of the same name. */
+uint8_t plain_judge(const uint8_t *sheet, size_t len);
+int64_t plain_write(uint8_t count, uint16_t interval, const uint16_t *fields, size_t fields_len,
+                    uint8_t *out, size_t out_len);
+int64_t plain_rewrite(const uint8_t *sheet, size_t len, uint8_t *out, size_t out_len);
+int64_t plain_record(const uint8_t *sheet, size_t len, size_t place);
+int64_t plain_response(const uint8_t *sheet, size_t len, size_t place);
+int64_t plain_verdict(const uint8_t *sheet, size_t len);
+int64_t plain_least_interval(const uint8_t *sheet, size_t len);
+int64_t plain_next(const uint8_t *sheet, size_t len, uint32_t after);
+int64_t plain_list(const uint8_t *sheet, size_t len, uint8_t *out, size_t out_len);
+
+#endif

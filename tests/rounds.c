@@ -1,0 +1,352 @@
+/* The two kinds of rounds of the comparison. */
+#include "rounds.h"
+
+#include "plain.h"
+
+#include <stdbool.h>
+#include <string.h>
+
+enum {
+    HEADER_BYTES = 3,
+    RECORD_BYTES = 9,
+    ENTRY_BYTES = 4,
+    DAMAGES = 16,
+    /* Every sixteenth codec sheet is also cut short at every length below its own. */
+    CUTS_EVERY = 16,
+    /* Of 400 analysis sheets, 1 has its eight tasks listed, 20 have fields of full width (half of them drawn
+     * like a codec sheet or with sums at the edge of 32 bits), 40 are asked for their least interval, 100
+     * have one to six tasks and are listed, and the other 239 are asked for times and the verdict only. */
+    EIGHT_LISTED_EVERY = 400,
+    FULL_WIDTH_EVERY = 20,
+    LEAST_INTERVAL_EVERY = 10,
+    LISTED_EVERY = 4,
+    /* The longest periods, which bound the deadlines, of sheets that are not of full width. */
+    LONGEST_SMALL = 30,
+    LONGEST_MODEST = 500,
+    LONGEST_LARGE = 5000,
+    LONGEST_LISTED = 80,
+    LONGEST_EIGHT_LISTED = 40,
+    LONGEST_LEAST_INTERVAL = 60,
+    LONGEST_LEAST_INTERVAL_FOUND = 600,
+    /* A list of fewer entries is walked step by step. */
+    MOST_STEPS = 1000,
+    /* One in so many sheets that pass at no interval at all is kept: these make the search try all 65,535. */
+    NO_INTERVAL_KEPT = 8
+};
+
+/* What is done to the codec sheets, in turn. */
+static const enum damage DAMAGE_OF_ROUND[DAMAGES] = {
+    NO_DAMAGE,    NO_DAMAGE,   NO_DAMAGE,    NO_DAMAGE,   NO_DAMAGE,        BROKEN_RULE,
+    BROKEN_RULE,  BROKEN_RULE, BROKEN_RULE,  BROKEN_RULE, TWO_BROKEN_RULES, IMPOSSIBLE_COUNT,
+    RANDOM_BYTES, BYTES_ADDED, BYTE_CHANGED, BIT_FLIPPED,
+};
+
+/* Rewrites the sheet into outputs too short, just long enough and too long. */
+static void check_rewrites(struct comparison *comparison)
+{
+    size_t length = comparison->sheet_length;
+    check_rewrite(comparison, length);
+    check_rewrite(comparison, length > 0 ? length - 1 : 0);
+    check_rewrite(comparison, random_below(&comparison->generator, length + 1));
+    check_rewrite(comparison, length + random_below(&comparison->generator, MARGIN));
+    check_rewrite(comparison, 0);
+}
+
+/* Asks for records at places that are there, just past the last one, and far away. */
+static void check_records(struct comparison *comparison)
+{
+    check_record(comparison, random_below(&comparison->generator, MOST_TASKS));
+    check_record(comparison, random_below(&comparison->generator, MOST_TASKS + 2));
+    check_record(comparison, comparison->sheet_length / RECORD_BYTES);
+    check_record(comparison, SIZE_MAX / 2 + 1);
+    check_record(comparison, SIZE_MAX - random_below(&comparison->generator, 2));
+}
+
+/* Makes the calls that a refused sheet has to be refused by, whatever else they ask for. */
+static void check_refused_calls(struct comparison *comparison)
+{
+    struct generator *generator = &comparison->generator;
+    check_response(comparison, random_below(generator, MOST_TASKS + 2));
+    check_verdict(comparison);
+    check_least_interval(comparison);
+    check_next(comparison, 0);
+    check_next(comparison, (uint32_t)random_below(generator, UINT32_MAX));
+    check_list(comparison, 0);
+    check_list(comparison, random_below(generator, SHEET_ROOM));
+}
+
+/* Cuts a sheet short at every length below its own. */
+static void check_cuts(struct comparison *comparison, const struct sheet *sheet)
+{
+    for (size_t length = 0; length < sheet->length; length++) {
+        lay_sheet(comparison, sheet->bytes, length);
+        check_judge(comparison);
+        check_rewrite(comparison, sheet->length);
+        check_record(comparison, 0);
+    }
+}
+
+/* What fq_write is given to write a draft; the numbers past those given are random. */
+static struct writing writing_of(struct generator *generator, const struct draft *draft)
+{
+    struct writing writing = {.count = (uint8_t)draft->count, .interval = draft->interval};
+    writing.given = NUMBERS * draft->tasks;
+    memcpy(writing.numbers, draft->numbers, writing.given * sizeof writing.numbers[0]);
+    for (size_t index = writing.given; index < MOST_GIVEN_NUMBERS; index++) {
+        writing.numbers[index] = (uint16_t)random_below(generator, HIGHEST + 1);
+    }
+    return writing;
+}
+
+/* Changes, in half of the cases, what fq_write is given: each way in which it may differ from a sheet. */
+static void change_writing(struct generator *generator, struct writing *writing)
+{
+    size_t record = random_below(generator, writing->given / NUMBERS);
+    size_t number = random_below(generator, 2) == 0 ? PRIORITY : FAULT_PRIORITY;
+    uint16_t *priority = &writing->numbers[NUMBERS * record + number];
+    switch (random_below(generator, 12)) {
+    case 0:
+        writing->given = random_below(generator, writing->given);
+        break;
+    case 1:
+        writing->given += 1 + random_below(generator, MOST_GIVEN_NUMBERS - writing->given);
+        break;
+    case 2:
+        *priority = (uint16_t)(*priority + 256 * (1 + random_below(generator, 255)));
+        break;
+    case 3:
+        *priority = (uint16_t)(*priority + 16 * (1 + random_below(generator, 15)));
+        break;
+    case 4:
+        writing->count = (uint8_t)random_below(generator, 256);
+        break;
+    case 5:
+        writing->interval = 0;
+        break;
+    default:
+        break;
+    }
+}
+
+/* Writes a draft, changed or not, into outputs too short, just long enough and too long. */
+static void check_writes(struct comparison *comparison, const struct draft *draft)
+{
+    struct generator *generator = &comparison->generator;
+    struct writing writing = writing_of(generator, draft);
+    change_writing(generator, &writing);
+    size_t needed = HEADER_BYTES + RECORD_BYTES * (size_t)(writing.count % 16);
+    check_write(comparison, &writing, needed);
+    check_write(comparison, &writing, needed - 1);
+    check_write(comparison, &writing, needed + 1 + random_below(generator, MARGIN));
+    check_write(comparison, &writing, 0);
+}
+
+/* Damages a sheet in the way whose turn it is, then reads it, writes it and, sometimes, cuts it short. */
+void codec_round(struct comparison *comparison, struct tally *tally, uint64_t round)
+{
+    start_round(comparison, CODEC, round);
+    struct draft draft = wide_draft(&comparison->generator);
+    struct sheet sheet = damaged_sheet(&comparison->generator, &draft, DAMAGE_OF_ROUND[round % DAMAGES]);
+    lay_sheet(comparison, sheet.bytes, sheet.length);
+    uint64_t differences = comparison->differences;
+    uint8_t judgement = check_judge(comparison);
+    /* A sheet that the library wrongly finds good is left at that, as its analysis could take very long. */
+    if (judgement != 0 && comparison->differences == differences) {
+        check_refused_calls(comparison);
+    }
+    tally->codec_sheets++;
+    tally->judged[judgement]++;
+    check_rewrites(comparison);
+    check_records(comparison);
+    check_writes(comparison, &draft);
+    if (round % CUTS_EVERY == 0) {
+        check_cuts(comparison, &sheet);
+    }
+}
+
+/* Asks for the times at every place, at two past the last and at two far away, and for the verdict. */
+static void check_times(struct comparison *comparison, struct tally *tally, const struct draft *draft)
+{
+    for (size_t place = 0; place < draft->tasks + 2; place++) {
+        check_response(comparison, place);
+    }
+    check_response(comparison, SIZE_MAX / 2 + 1);
+    check_response(comparison, SIZE_MAX);
+    if (check_verdict(comparison) == 1) {
+        tally->passing++;
+    } else {
+        tally->late++;
+    }
+    tally->analysis_sheets++;
+}
+
+/* The choice with a given entry for every record: its priority, or a random one that this allows. */
+static uint32_t choice_of(struct generator *generator, const struct draft *draft, bool last)
+{
+    uint32_t choice = 0;
+    for (unsigned place = 0; place < draft->tasks; place++) {
+        uint32_t priority = draft->numbers[place][PRIORITY];
+        uint32_t entry = last ? priority : 1 + (uint32_t)random_below(generator, priority);
+        choice |= entry << (28 - 4 * place);
+    }
+    return choice;
+}
+
+/* Steps from allowed choices and from each kind of choice that is not allowed. */
+static void check_steps(struct comparison *comparison, const struct draft *draft)
+{
+    struct generator *generator = &comparison->generator;
+    unsigned place = (unsigned)random_below(generator, draft->tasks);
+    unsigned shift = 28 - 4 * place;
+    uint32_t allowed = choice_of(generator, draft, false);
+    uint32_t cleared = allowed & ~((uint32_t)15 << shift);
+    uint32_t priority = draft->numbers[place][PRIORITY];
+    check_next(comparison, 0);
+    check_next(comparison, allowed);
+    check_next(comparison, choice_of(generator, draft, true));
+    check_next(comparison, cleared);
+    check_next(comparison, cleared | (priority + 1) << shift);
+    check_next(comparison, cleared | (uint32_t)15 << shift);
+    check_next(comparison, 1 + (uint32_t)random_below(generator, UINT32_MAX));
+    if (draft->tasks < MOST_TASKS) {
+        unsigned past = (unsigned)random_below(generator, MOST_TASKS - draft->tasks);
+        check_next(comparison, allowed | (uint32_t)1 << (4 * past));
+        check_next(comparison, (uint32_t)1 << (4 * past));
+    }
+}
+
+/* Walks with the library alone from the start to the end, along the list that the plain desk wrote last; of
+ * a long list, evenly spread steps are taken. */
+static void check_walk(struct comparison *comparison, size_t entries)
+{
+    size_t stride = 1 + entries / MOST_STEPS;
+    for (size_t index = 0; index < entries; index += stride) {
+        uint32_t after = index == 0 ? 0 : listed_entry(comparison, index - 1);
+        check_step(comparison, after, listed_entry(comparison, index));
+    }
+    check_step(comparison, entries == 0 ? 0 : listed_entry(comparison, entries - 1), 0);
+}
+
+/* Lists the choices into outputs too long, just long enough and too short, and walks along the list. */
+static void check_lists(struct comparison *comparison, struct tally *tally, const struct draft *draft)
+{
+    struct generator *generator = &comparison->generator;
+    size_t room = ENTRY_BYTES;
+    for (unsigned task = 1; task <= draft->tasks; task++) {
+        room *= task;
+    }
+    size_t entries = (size_t)check_list(comparison, room + random_below(generator, MARGIN));
+    check_walk(comparison, entries);
+    check_list(comparison, ENTRY_BYTES * entries);
+    if (entries > 0) {
+        check_list(comparison, ENTRY_BYTES * entries - 1);
+        check_list(comparison, ENTRY_BYTES * (entries - 1));
+        check_list(comparison, random_below(generator, ENTRY_BYTES * entries));
+    }
+    tally->lists++;
+    tally->lists_of_eight += draft->tasks == MOST_TASKS;
+    tally->listed_choices += entries;
+}
+
+/* A draft that passes at some interval, most of the time, with an interval that need not be that one. */
+static struct draft draft_for_least_interval(struct generator *generator)
+{
+    bool found_only = random_below(generator, 4) == 0;
+    unsigned limit = found_only ? LONGEST_LEAST_INTERVAL_FOUND : LONGEST_LEAST_INTERVAL;
+    for (;;) {
+        unsigned longest = 4 + (unsigned)random_below(generator, limit - 3);
+        struct draft draft = timed_draft(generator, 1 + (unsigned)random_below(generator, 5), longest);
+        uint16_t interval = draft.interval;
+        draft.interval = HIGHEST;
+        struct sheet sheet = packed(&draft);
+        draft.interval = interval;
+        if (plain_verdict(sheet.bytes, sheet.length) == 1 ||
+            (!found_only && random_below(generator, NO_INTERVAL_KEPT) == 0)) {
+            return draft;
+        }
+    }
+}
+
+/* A draft with fields of full width: near what just passes, like a codec sheet, or with the largest sums. */
+static struct draft full_width_draft(struct generator *generator)
+{
+    switch (random_below(generator, 4)) {
+    case 0:
+        return wide_draft(generator);
+    case 1:
+        return heavy_draft(generator);
+    default:
+        return timed_draft(generator, 1 + (unsigned)random_below(generator, MOST_TASKS), HIGHEST);
+    }
+}
+
+/* A draft with modest periods, in half of the cases small ones, where times meet deadlines often. */
+static struct draft modest_draft(struct generator *generator)
+{
+    static const unsigned LIMITS[] = {LONGEST_SMALL, LONGEST_SMALL, LONGEST_MODEST, LONGEST_LARGE};
+    unsigned limit = LIMITS[random_below(generator, 4)];
+    unsigned longest = 4 + (unsigned)random_below(generator, limit - 3);
+    return timed_draft(generator, 1 + (unsigned)random_below(generator, MOST_TASKS), longest);
+}
+
+/* A draft whose choices are listed: up to five tasks, and six in one case of sixteen. */
+static struct draft draft_to_list(struct generator *generator)
+{
+    unsigned longest = 4 + (unsigned)random_below(generator, LONGEST_LISTED - 3);
+    unsigned tasks = random_below(generator, 16) == 0 ? 6 : 1 + (unsigned)random_below(generator, 5);
+    return timed_draft(generator, tasks, longest);
+}
+
+/* Lays the packed draft and asks for its times. */
+static void check_draft(struct comparison *comparison, struct tally *tally, const struct draft *draft)
+{
+    struct sheet sheet = packed(draft);
+    lay_sheet(comparison, sheet.bytes, sheet.length);
+    check_times(comparison, tally, draft);
+}
+
+/* Draws a sheet of the sort whose turn it is and asks what is affordable for that sort. */
+void analysis_round(struct comparison *comparison, struct tally *tally, uint64_t round)
+{
+    struct generator *generator = &comparison->generator;
+    struct draft draft;
+    start_round(comparison, ANALYSIS, round);
+    if (round % EIGHT_LISTED_EVERY == 0) {
+        draft = timed_draft(generator, MOST_TASKS, LONGEST_EIGHT_LISTED);
+        check_draft(comparison, tally, &draft);
+        check_steps(comparison, &draft);
+        check_lists(comparison, tally, &draft);
+    } else if (round % FULL_WIDTH_EVERY == 1) {
+        draft = full_width_draft(generator);
+        check_draft(comparison, tally, &draft);
+    } else if (round % LEAST_INTERVAL_EVERY == 2) {
+        draft = draft_for_least_interval(generator);
+        check_draft(comparison, tally, &draft);
+        tally->least_intervals++;
+        tally->least_intervals_of_none += check_least_interval(comparison) == 0;
+    } else if (round % LISTED_EVERY == 3) {
+        draft = draft_to_list(generator);
+        check_draft(comparison, tally, &draft);
+        check_steps(comparison, &draft);
+        check_lists(comparison, tally, &draft);
+    } else {
+        draft = modest_draft(generator);
+        check_draft(comparison, tally, &draft);
+    }
+}
+
+/*
+ * One task of cost 1, deadline and period 65,535. With a backup of 65,534 it ends at 65,535 exactly, which a second
+ * fault within that time would spoil, so only the interval 65,535 passes; with a backup of 65,535 none does. Plain
+ * search takes too long for these, so their answers are written down.
+ */
+void edge_round(struct comparison *comparison)
+{
+    static const uint8_t last[] = {0x10, 0x00, 0x09, 0x00, 0x01, 0xFF, 0xFE, 0xFF, 0xFF, 0xFF, 0xFF, 0x11};
+    static const uint8_t none[] = {0x10, 0x00, 0x09, 0x00, 0x01, 0xFF, 0xFF, 0xFF, 0xFF, 0xFF, 0xFF, 0x11};
+    start_round(comparison, ANALYSIS, 0);
+    lay_sheet(comparison, last, sizeof last);
+    check_interval(comparison, HIGHEST);
+    lay_sheet(comparison, none, sizeof none);
+    check_interval(comparison, 0);
+}

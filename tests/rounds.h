@@ -1,0 +1,35 @@
+/*
+ * The two kinds of rounds of the comparison: codec rounds, which read, write and damage sheets, and analysis
+ * rounds, which ask for times, verdicts, intervals and choices.
+ */
+#ifndef ROUNDS_H
+#define ROUNDS_H
+
+#include "checks.h"
+
+enum { JUDGEMENTS = 11 };
+
+/* What was run so far, by kind. */
+struct tally {
+    uint64_t codec_sheets;
+    uint64_t judged[JUDGEMENTS];
+    uint64_t analysis_sheets;
+    uint64_t passing;
+    uint64_t late;
+    uint64_t least_intervals;
+    uint64_t least_intervals_of_none;
+    uint64_t lists;
+    uint64_t lists_of_eight;
+    uint64_t listed_choices;
+};
+
+/* Checks the least intervals at the far end, which random sheets do not reach. */
+void edge_round(struct comparison *comparison);
+
+/* Runs one codec round. */
+void codec_round(struct comparison *comparison, struct tally *tally, uint64_t round);
+
+/* Runs one analysis round. */
+void analysis_round(struct comparison *comparison, struct tally *tally, uint64_t round);
+
+#endif

@@ -1,0 +1,72 @@
+/*
+ * Random timing sheets, good and damaged, from a generator of its own that gives the same numbers on every
+ * machine.
+ */
+#ifndef SHEETS_H
+#define SHEETS_H
+
+#include <stddef.h>
+#include <stdint.h>
+
+/* The places of a record's numbers, in the order in which fq_write takes them. */
+enum number { COST, BACKUP, DEADLINE, PERIOD, PRIORITY, FAULT_PRIORITY, NUMBERS };
+
+enum { MOST_TASKS = 8, HIGHEST = 65535, SHEET_ROOM = 96 };
+
+/* What is done to a good sheet. */
+enum damage {
+    NO_DAMAGE,
+    BROKEN_RULE,
+    TWO_BROKEN_RULES,
+    IMPOSSIBLE_COUNT,
+    RANDOM_BYTES,
+    BYTES_ADDED,
+    BYTE_CHANGED,
+    BIT_FLIPPED
+};
+
+/* The state of the generator (splitmix64). */
+struct generator {
+    uint64_t state;
+};
+
+/* A sheet before it is packed: its records, and a header that need not be true to them. */
+struct draft {
+    unsigned tasks;
+    unsigned count;
+    unsigned reserved;
+    uint16_t interval;
+    uint16_t numbers[MOST_TASKS][NUMBERS];
+};
+
+/* The bytes of a sheet. */
+struct sheet {
+    size_t length;
+    uint8_t bytes[SHEET_ROOM];
+};
+
+/* The generator of one round; rounds of one seed and one kind have nothing to do with each other. */
+struct generator generator_of(uint64_t seed, uint64_t kind, uint64_t round);
+
+/* A random number from 0 up to but not including the bound. */
+uint64_t random_below(struct generator *generator, uint64_t bound);
+
+/* Fills bytes with random ones. */
+void random_bytes(struct generator *generator, uint8_t *bytes, size_t length);
+
+/* A good draft of 1 to 8 tasks whose fields use all 16 bits; smallest and largest values come often. */
+struct draft wide_draft(struct generator *generator);
+
+/* A good draft of so many tasks with periods up to the longest and a load near what just passes. */
+struct draft timed_draft(struct generator *generator, unsigned tasks, unsigned longest);
+
+/* A good draft of 5 to 8 tasks whose highest task is late only by a sum that takes 31 or more bits. */
+struct draft heavy_draft(struct generator *generator);
+
+/* The bytes of a draft, good or not. */
+struct sheet packed(const struct draft *draft);
+
+/* The sheet of a draft with some damage done to it; a rule or a count is broken in the draft as well. */
+struct sheet damaged_sheet(struct generator *generator, struct draft *draft, enum damage damage);
+
+#endif
