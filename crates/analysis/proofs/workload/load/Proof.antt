@@ -22,32 +22,41 @@ abbrev runs : List Record → ℕ → ℕ → ℕ → ℕ → ℕ
 runs records omitted level length k = runOf (recordAt records k) (others omitted k) level length
 
 abbrev Inv-loop : tie.InvT-loop
-Inv-loop interval length table count omitted level total₀ place₀ total place = (place ≤ count) × (total ≡ sumBelow (runs (table .records) omitted level length) place + total₀) × (total ≤ 4294836225 + place * 4294836225)
+Inv-loop interval length table count omitted level span faults total₀ place₀ total place = (place ≤ count) × (total ≡ sumBelow (runs (table .records) omitted level length) place + total₀) × (total ≤ 4294836225 + place * 4294836225)
 
 abbrev μ-loop : tie.MeasureT-loop
-μ-loop interval length table count omitted level total₀ place₀ total place = count - place
+μ-loop interval length table count omitted level span faults total₀ place₀ total place = count - place
 
 cast-count : tie.Need-cast-count Inv-loop μ-loop
 cast-count c = search needs
 
-wide-requires : tie.Need-wide-requires Inv-loop μ-loop
-wide-requires c κs = search needs
+cast-span : tie.Need-cast-span Inv-loop μ-loop
+cast-span c = search needs
+
+half-wide-requires : tie.Need-half-wide-requires Inv-loop μ-loop
+half-wide-requires c κs = search needs
 
 up-requires : tie.Need-up-requires Inv-loop μ-loop
 up-requires c κs =
     omega arith
 
-wide-requires-2 : tie.Need-wide-requires-2 Inv-loop μ-loop
-wide-requires-2 c κs = search needs
+half-wide-requires-2 : tie.Need-half-wide-requires-2 Inv-loop μ-loop
+half-wide-requires-2 c κs = search needs
 
-mul-total : tie.Need-mul-total Inv-loop μ-loop
-mul-total c =
-    omega (arith, wide-product (c .before .up .ensures .1) (c .wide2 .ensures .1))
+-- what the faults take is a product of two numbers of 16 bits
+faults-small : (c : tie.After-half-wide2 Inv-loop μ-loop) → c .before .up .result * c .half-wide2 .result ≤ 4294836225
+faults-small c = wide-product (c .before .up .ensures .1) (c .half-wide2 .ensures .1)
+
+mul-faults : tie.Need-mul-faults Inv-loop μ-loop
+mul-faults c = omega (arith, faults-small c)
+
+cast-total : tie.Need-cast-total Inv-loop μ-loop
+cast-total c = omega (arith, faults-small c)
 
 loop-holds : tie.Need-loop-holds Inv-loop μ-loop
 unfolding sumBelow
 loop-holds c =
-    (search needs, sym (zero-add _), wide-product (c .before .up .ensures .1) (c .wide2 .ensures .1))
+    (search needs, sym (zero-add _), faults-small c)
 
 mul-run-of : tie.Need-mul-run-of Inv-loop μ-loop
 mul-run-of c = search needs
@@ -65,6 +74,9 @@ run-of-requires c κs =
     let good = good-table (given .args .t1) (given .pre .0) in
     let task = good-at (given .args .t1 .count) (recordAt (given .args .t1 .records)) (good .records) (turn .before .loop .place) (turn .loop-test .taken) in
     (given .pre .2, omega arith)
+
+cast-total-2 : tie.Need-cast-total-2 Inv-loop μ-loop
+cast-total-2 c = search needs
 
 add-total : tie.Need-add-total Inv-loop μ-loop
 add-total c =
@@ -84,7 +96,7 @@ loop-again c =
     let given = c .before .before .before .before .before .before .before in
     let each = runs (given .args .t1 .records) (given .args .demand .omitted) (given .args .demand .level) (given .args .length) in
     let more = sum-more each (at .place) in
-    let grown : at .total + c .run-of .result ≡ (sumBelow each (at .place) + c .before .before .before .before .before .up .result * c .before .before .before .before .wide2 .result) + each (at .place) = ap₂ _+_ (at .inv .1) (c .run-of .ensures .0) in
+    let grown : at .total + c .run-of .result ≡ (sumBelow each (at .place) + c .before .before .before .before .before .up .result * c .before .before .before .before .half-wide2 .result) + each (at .place) = ap₂ _+_ (at .inv .1) (c .run-of .ensures .0) in
     (search needs, omega arith, omega arith)
 
 returns : tie.Need-returns Inv-loop μ-loop
@@ -96,7 +108,7 @@ returns c =
     let all : c .before .loop .place ≡ given .args .t1 .count = omega arith in
     let faults = c .before .before .before in (
       c .before .loop .inv .1
-          ∙ ap₂ _+_ (ap (sumBelow each) all) (ap₂ _*_ (faults .up .ensures .0 ∙ ap (up (given .args .length)) (faults .before .wide .ensures .0)) (c .before .before .wide2 .ensures .0)),
+          ∙ ap₂ _+_ (ap (sumBelow each) all) (ap₂ _*_ (faults .up .ensures .0 ∙ ap (up (given .args .length)) (faults .before .half-wide .ensures .0)) (c .before .before .half-wide2 .ensures .0)),
       omega arith,
     )
 
@@ -107,14 +119,17 @@ load-spec =
     Inv-loop
     μ-loop
     cast-count
-    wide-requires
+    cast-span
+    half-wide-requires
     up-requires
-    wide-requires-2
-    mul-total
+    half-wide-requires-2
+    mul-faults
+    cast-total
     loop-holds
     mul-run-of
     element-copy-out-run-of
     run-of-requires
+    cast-total-2
     add-total
     add-place
     loop-less
