@@ -41,6 +41,14 @@ first-none test (suc n) start fails = rw (fails start (omega arith) (omega arith
 abbrev pub Short : (ℕ → ℕ) → ℕ → ℕ → Type 0
 Short asked start end = (k : ℕ) → start ≤ k → k < end → k < asked k
 
+-- two such stretches, one after the other
+short-join : (asked : ℕ → ℕ) {start mid end : ℕ} → Short asked start mid → Short asked mid end → Short asked start end
+short-join asked {mid = mid} before after k low high = go (decLt k mid)
+  where
+    go : Dec (k < mid) → k < asked k
+    go (yes h) = before k low h
+    go (no h) = after k (omega arith) high
+
 module _ (asked : ℕ → ℕ) (start limit : ℕ) where
   -- what a climb knows before its first trial
   pub short-start : Short asked start start
@@ -48,11 +56,7 @@ module _ (asked : ℕ → ℕ) (start limit : ℕ) where
 
   -- where the demand rises, a trial that asks for more rules out each length up to what it asks
   pub short-more : ((a b : ℕ) → a ≤ b → asked a ≤ asked b) → (trial : ℕ) → Short asked start trial → trial < asked trial → Short asked start (asked trial)
-  short-more rises trial short more k low high = go (decLt k trial)
-    where
-      go : Dec (k < trial) → k < asked k
-      go (yes h) = short k low h
-      go (no h) = le-trans high (rises trial k (omega arith))
+  short-more rises trial short more = short-join asked short (λ k low high. le-trans high (rises trial k low))
 
   -- a trial that asks no more is the least
   pub least-found : (trial : ℕ) → start ≤ trial → trial ≤ limit → Short asked start trial → asked trial ≤ trial → leastWithin asked start limit ≡ trial
@@ -109,6 +113,14 @@ least-agree f g start limit same = go (least-says f start limit)
     go : {r : ℕ} → Least f start limit r → r ≡ leastWithin g start limit
     go (none short) = sym (least-none g start limit (suc limit) (omega arith) (λ k low high. subst (λ (n : ℕ). k < n) (same k low) (short k low high)))
     go (least {L = L} low high fits short) = sym (least-found g start limit L low high (λ k l h. subst (λ (n : ℕ). k < n) (same k l) (short k l h)) (subst (λ (n : ℕ). n ≤ L) (same L low) fits))
+
+-- a start past lengths that ask too much of themselves has the same least
+pub least-later : (asked : ℕ → ℕ) (start later limit : ℕ) → start ≤ later → Short asked start later → leastWithin asked later limit ≡ leastWithin asked start limit
+least-later asked start later limit past short = go (least-says asked later limit)
+  where
+    go : {r : ℕ} → Least asked later limit r → r ≡ leastWithin asked start limit
+    go (none rest) = sym (least-none asked start limit (suc limit) (omega arith) (short-join asked short rest))
+    go (least {L = L} low high fits rest) = sym (least-found asked start limit L (omega arith) high (short-join asked short rest) fits)
 
 -- the least is within the limit
 pub least-within : (f : ℕ → ℕ) (start limit : ℕ) → leastWithin f start limit ≤ limit

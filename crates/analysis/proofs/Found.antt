@@ -3,6 +3,7 @@ use Prim.Native.Nat.{ℕ, _+_, _≤_}
 use mathlib.Core.Path.{_≡_, refl, ap₂, _∙_}
 use mathlib.Core.List.{List, []}
 use lib.ListN.{getD}
+use native.Mathlib.Omega.{arith}
 use Rattle.sheet.specs.declared.Table.{Table}
 use Rattle.sheet.specs.Layout.{recordAt}
 use Rattle.analysis.specs.declared.Demand.{Demand}
@@ -12,7 +13,7 @@ use Rattle.analysis.specs.Equations.{struckElsewhere, stageOne, stageTwo
 use Rattle.analysis.specs.Search.{leastWithin}
 use Rattle.analysis.specs.Response.{timeElsewhere, lengthOne}
 use Rattle.analysis.specs.Demand.{loadOf, demandOf}
-use Rattle.analysis.proofs.Climbing.{least-agree}
+use Rattle.analysis.proofs.Climbing.{Short, least-agree, least-later}
 use Rattle.analysis.proofs.Tied.{demandElsewhere, demandOne, demandTwo, elsewhere-tied, one-tied, two-tied}
 
 -- the demand does not read the fault priorities
@@ -39,12 +40,18 @@ module _ (t : Table) (interval : ℕ) (choice : List ℕ) (i : ℕ) where
       ap₂ (λ (d : Demand) (n : ℕ). leastWithin (demandOf (tasksOf t interval []) d) 1 n) (λ j. record { base = b j; level = getD choice i 0; omitted = i; backup = m j; paid = (p ∙ m) j }) l
       ∙ least-agree _ (stageOne tasks i) 1 _ (λ L low. faultless t interval choice (demandOne tasks i) L ∙ one-tied tasks i L some low)
 
+  -- stage two asks its base of every length, so that no length below the base is enough
+  short-base : (first : ℕ) → Short (stageTwo tasks i first) first (first + recordAt (t .records) i .cost)
+  unfolding stageTwo
+  short-base first k low high = omega arith
+
   pub two-found : (first : ℕ) {base backup paid limit : ℕ} → base ≡ first + recordAt (t .records) i .cost → backup ≡ largestBackup (tasksOf t 0 choice) everyone (recordAt (t .records) i .priority)
       → paid ≡ loadOf (tasksOf t interval []) (record { base = base; level = recordAt (t .records) i .priority; omitted = i; backup = backup; paid = 0 }) first → limit ≡ recordAt (t .records) i .deadline
-      → leastWithin (demandOf (tasksOf t interval []) (record { base = base; level = recordAt (t .records) i .priority; omitted = i; backup = backup; paid = paid })) first limit
+      → leastWithin (demandOf (tasksOf t interval []) (record { base = base; level = recordAt (t .records) i .priority; omitted = i; backup = backup; paid = paid })) base limit
       ≡ leastWithin (stageTwo tasks i first) first (recordAt (t .records) i .deadline)
   unfolding backupAfter largestBackup loadOf
   two-found first b m p l =
       let q = p ∙ ap₂ (λ (x y : ℕ). loadOf (tasksOf t interval []) (record { base = x; level = recordAt (t .records) i .priority; omitted = i; backup = y; paid = 0 }) first) b m in
-      ap₂ (λ (d : Demand) (n : ℕ). leastWithin (demandOf (tasksOf t interval []) d) first n) (λ j. record { base = b j; level = recordAt (t .records) i .priority; omitted = i; backup = m j; paid = q j }) l
-      ∙ least-agree _ (stageTwo tasks i first) first _ (λ L low. faultless t interval choice (demandTwo tasks i first) L ∙ two-tied tasks i first L low)
+      (λ j. leastWithin (demandOf (tasksOf t interval []) (record { base = b j; level = recordAt (t .records) i .priority; omitted = i; backup = m j; paid = q j })) (b j) (l j))
+      ∙ least-agree _ (stageTwo tasks i first) (first + recordAt (t .records) i .cost) _ (λ L low. faultless t interval choice (demandTwo tasks i first) L ∙ two-tied tasks i first L (omega arith))
+      ∙ least-later (stageTwo tasks i first) first _ _ (omega arith) (short-base first)

@@ -53,7 +53,7 @@ fn length_one(table: Table, interval: u16, choice: [u8; 8], place: usize) -> u64
     search::climb(table, interval, sought, 1, workload::wide(task.deadline))
 }
 
-// The time of stage two, from the length of stage one on, or 0.
+// The time of stage two, from the length of stage one on, or 0. No length below the base is enough, so the climb starts there.
 fn stage_two(table: Table, interval: u16, choice: [u8; 8], place: usize, first: u64) -> u64
     requires { ⌜ (tableRefusal table ≡ 0) × (1 ≤ interval) × (place < table .count) × (1 ≤ first) × (first < 65536) ⌝ }
     ensures { λ r. ⌜ (r ≡ leastWithin (stageTwo (tasksOf table interval choice) place first) first (recordAt (table .records) place .deadline)) × (r < 65536) ⌝ }
@@ -61,27 +61,22 @@ fn stage_two(table: Table, interval: u16, choice: [u8; 8], place: usize, first: 
     let task = table.records[place];
     let level = task.priority;
     let backup = workload::largest_of_all(table, choice, place, level);
+    let base = first + workload::wide(task.cost);
     let unpaid = Demand {
-        base: first + workload::wide(task.cost),
+        base,
         level,
         omitted: place,
         backup,
         paid: 0,
     };
     let sought = Demand {
-        base: unpaid.base,
+        base,
         level,
         omitted: place,
         backup,
         paid: workload::load(table, interval, unpaid, first),
     };
-    search::climb(
-        table,
-        interval,
-        sought,
-        first,
-        workload::wide(task.deadline),
-    )
+    search::climb(table, interval, sought, base, workload::wide(task.deadline))
 }
 
 // The time of the record at a place when the first fault strikes it, or 0.

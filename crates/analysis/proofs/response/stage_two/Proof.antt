@@ -23,8 +23,8 @@ largest-of-all-requires c κs =
 wide-requires : tie.Need-wide-requires
 wide-requires c κs = search needs
 
-add-climb : tie.Need-add-climb
-add-climb c = search needs
+add-base : tie.Need-add-base
+add-base c = search needs
 
 load-requires : tie.Need-load-requires
 load-requires c κs = search needs
@@ -52,7 +52,7 @@ stage-two-spec =
     element-copy-out-task
     largest-of-all-requires
     wide-requires
-    add-climb
+    add-base
     load-requires
     wide-requires-2
     climb-requires
