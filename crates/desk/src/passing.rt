@@ -9,6 +9,7 @@ use sheet::Table;
 // How many choices a sheet of eight tasks has, which is as many as a walk can come to.
 const CHOICES: u64 = 40320;
 
+// Whether a step came to a passing choice.
 fn is_passing(arrival: Arrival) -> bool {
     match arrival {
         Arrival::Passing => true,

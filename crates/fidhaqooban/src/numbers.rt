@@ -1,7 +1,6 @@
 // Tables, choices, times and answers as the numbers of C.
 ghost use mathlib.Core.Path.{_≡_};
 ghost use Prim.Native.Nat.{_<_, _^_};
-ghost use Rattle.sheet.specs.Layout.{noRecord};
 ghost use Rattle.choices.specs.Stepping.{small};
 ghost use Rattle.fidhaqooban.specs.Numbers.{answerOf, numberAt, byteOf, recordFrom, tableFrom, givenTable, timeOf, entriesOf, choiceOf};
 use analysis::Outcome;
@@ -54,25 +53,12 @@ fn record(numbers: &[u16], place: usize) -> Record
 }
 
 // A record of zeros.
-fn no_record() -> Record
-    ensures { λ r. ⌜ r ≡ noRecord ⌝ }
-{
-    Record {
-        cost: 0,
-        backup: 0,
-        deadline: 0,
-        period: 0,
-        priority: 0,
-        fault_priority: 0,
-    }
-}
-
 // The table of numbers that are all its own.
 fn table_of(count: u8, interval: u16, numbers: &[u16]) -> Table
     ensures { λ r. ⌜ r ≡ tableFrom count interval (now (numbers .entry)) ⌝ }
 {
-    let mut records = [no_record(); 8];
-    let mut place: usize = 0;
+    let mut records = [record(numbers, 0); 8];
+    let mut place: usize = 1;
     while place < 8 {
         records[place] = record(numbers, place);
         place += 1;

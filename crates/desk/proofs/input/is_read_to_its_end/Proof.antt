@@ -1,4 +1,4 @@
--- `desk::input::is_read_to_its_end` is safe and ends. Assumes nothing.
+-- `desk::input::is_read_to_its_end` is safe and ends. The loop's invariant: the buffer keeps its length. The measure is the number of turns that are left. Assumes nothing.
 use mathlib.Core.Path.{_≡_}
 use lib.ListN.{length}
 use borrow.Author.Needs.{needs}

@@ -1,4 +1,4 @@
--- `desk::output::write` is safe and ends. Assumes nothing.
+-- `desk::output::write` is safe and ends: the lines gathered so far are a part of the buffer. Assumes nothing.
 use native.Mathlib.Omega.{arith}
 use lib.ListN.{length-take}
 use borrow.Author.Needs.{needs}

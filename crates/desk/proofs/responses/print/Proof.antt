@@ -1,4 +1,4 @@
--- `desk::responses::print` is safe and ends. Assumes nothing.
+-- `desk::responses::print` is safe and ends. The loop's invariant: the buffer keeps its length. The measure is the number of places that are left. Assumes nothing.
 use Prim.Native.Nat.{_-_}
 use mathlib.Core.Path.{_≡_}
 use lib.ListN.{length}

@@ -1,10 +1,12 @@
 -- `fidhaqooban::numbers::table_of` meets its contract: before each turn the records below the place are filled. Assumes nothing.
-use Prim.Native.Nat.{_≤_, _-_}
-use mathlib.Core.Path.{_≡_, ap}
+use Prim.Native.Nat.{ℕ, _≤_, _-_}
+use mathlib.Core.Path.{_≡_, ap, _∙_}
+use mathlib.Core.List.{List}
 use native.Mathlib.Omega.{arith}
 use lib.ListN.{replicate}
+use Rattle.sheet.specs.declared.Record.{Record}
 use Rattle.sheet.specs.Places.{filledBelow}
-use Rattle.sheet.specs.Layout.{noRecord, room}
+use Rattle.sheet.specs.Layout.{room}
 use Rattle.sheet.proofs.Turns.{fill-more}
 use Rattle.fidhaqooban.specs.Numbers.{recordFrom, tableFrom}
 use borrow.Author.Needs.{needs}
@@ -12,20 +14,20 @@ use Rattle.fidhaqooban.proofs.numbers.table_of.Statement.{statement}
 use Rattle.fidhaqooban.proofs.numbers.table_of.Tie as tie
 
 abbrev Inv-loop : tie.InvT-loop
-Inv-loop count interval numbers records₀ place₀ records place = (place ≤ 8) × (records ≡ filledBelow (recordFrom numbers) place (replicate 8 noRecord))
+Inv-loop count interval numbers records₀ place₀ records place = (place ≤ 8) × (records ≡ filledBelow (recordFrom numbers) place (replicate 8 (recordFrom numbers 0)))
 
 abbrev μ-loop : tie.MeasureT-loop
 μ-loop count interval numbers records₀ place₀ records place = 8 - place
 
-no-record-requires : tie.Need-no-record-requires Inv-loop μ-loop
-no-record-requires c κs = search needs
+record-requires : tie.Need-record-requires Inv-loop μ-loop
+record-requires c κs = search needs
 
 loop-holds : tie.Need-loop-holds Inv-loop μ-loop
 unfolding filledBelow
-loop-holds c = (search needs, ap (replicate 8) (c .no-record .ensures))
+loop-holds c = (search needs, ap (replicate 8) (c .record .ensures))
 
-record-requires : tie.Need-record-requires Inv-loop μ-loop
-record-requires c κs = search needs
+record-requires-2 : tie.Need-record-requires-2 Inv-loop μ-loop
+record-requires-2 c κs = search needs
 
 mul-records : tie.Need-mul-records Inv-loop μ-loop
 mul-records c = search needs
@@ -42,14 +44,16 @@ loop-less c = search needs
 loop-again : tie.Need-loop-again Inv-loop μ-loop
 loop-again c =
     let turn = c .before in
-    (search needs, cc (fill-more (recordFrom (turn .before .before .before .before .args .numbers .now)) (turn .before .loop .place) (replicate 8 noRecord)))
+    (search needs, cc (fill-more (recordFrom (turn .before .before .before .before .args .numbers .now)) (turn .before .loop .place) (replicate 8 (recordFrom (turn .before .before .before .before .args .numbers .now) 0))))
 
 returns : tie.Need-returns Inv-loop μ-loop
-unfolding tableFrom room
+unfolding tableFrom room filledBelow
 returns c =
-    let done = c .before .loop .inv in
+    let given = c .before .before .before .before in
+    let each = recordFrom (given .args .numbers .now) in
     let all : c .before .loop .place ≡ 8 = omega arith in
-    cc
+    ap (λ (records : List Record). record { count = given .args .count; interval = given .args .interval; records = records })
+    (c .before .loop .inv .1 ∙ ap (λ (n : ℕ). filledBelow each n (replicate 8 (each 0))) all)
 
 pub table-of-spec : {M : Type 1} → statement M
 table-of-spec =
@@ -57,9 +61,9 @@ table-of-spec =
     (tie.spec
     Inv-loop
     μ-loop
-    no-record-requires
-    loop-holds
     record-requires
+    loop-holds
+    record-requires-2
     mul-records
     array-set-from-records
     add-place
