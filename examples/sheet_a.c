@@ -20,7 +20,8 @@ static const uint16_t numbers[COUNT * FQ_RECORD_NUMBERS] = {
 };
 
 /* Prints each task's response time, or that it is late. */
-static void print_responses(const uint8_t *sheet, size_t length) {
+static void print_responses(const uint8_t *sheet, size_t length)
+{
     for (size_t place = 0; place < COUNT; place++) {
         int64_t time = fq_response(sheet, length, place);
         if (time > 0)
@@ -31,7 +32,8 @@ static void print_responses(const uint8_t *sheet, size_t length) {
 }
 
 /* Prints the four bits of each task in every entry of the list. */
-static void print_list(const uint8_t *list, int64_t entries) {
+static void print_list(const uint8_t *list, int64_t entries)
+{
     for (int64_t entry = 0; entry < entries; entry++) {
         printf("passes with fault priorities");
         for (int place = 0; place < COUNT; place++) {
@@ -42,7 +44,8 @@ static void print_list(const uint8_t *list, int64_t entries) {
     }
 }
 
-int main(void) {
+int main(void)
+{
     uint8_t sheet[FQ_SHEET_BYTES];
     static uint8_t list[FQ_LIST_BYTES];
 

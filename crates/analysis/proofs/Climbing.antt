@@ -55,8 +55,8 @@ module _ (asked : ℕ → ℕ) (start limit : ℕ) where
   short-start k low high = absurd (omega arith)
 
   -- where the demand rises, a trial that asks for more rules out each length up to what it asks
-  pub short-more : ((a b : ℕ) → a ≤ b → asked a ≤ asked b) → (trial : ℕ) → Short asked start trial → trial < asked trial → Short asked start (asked trial)
-  short-more rises trial short more = short-join asked short (λ k low high. le-trans high (rises trial k low))
+  pub short-more : ((a b : ℕ) → a ≤ b → asked a ≤ asked b) → (trial : ℕ) → Short asked start trial → Short asked start (asked trial)
+  short-more rises trial short = short-join asked short (λ k low high. le-trans high (rises trial k low))
 
   -- a trial that asks no more is the least
   pub least-found : (trial : ℕ) → start ≤ trial → trial ≤ limit → Short asked start trial → asked trial ≤ trial → leastWithin asked start limit ≡ trial

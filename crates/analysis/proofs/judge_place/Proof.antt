@@ -1,7 +1,6 @@
 -- `analysis::judge_place` meets its contract. Assumes nothing.
-use mathlib.Core.Path.{_≡_, sym, _∙_}
+use mathlib.Core.Path.{sym, _∙_}
 use borrow.Author.Tests.{lt-ltb, le-ltb}
-use Rattle.sheet.specs.Rules.{tableRefusal}
 use Rattle.sheet.proofs.Turns.{first-of, next-of}
 use Rattle.analysis.specs.Answers.{timedRefusal}
 use borrow.Author.Needs.{needs}

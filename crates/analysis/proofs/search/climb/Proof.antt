@@ -1,5 +1,5 @@
 -- `analysis::search::climb` meets its contract: every length below the trial asks for more than itself. Assumes nothing.
-use Prim.Native.Nat.{ℕ, suc, _≤_, _<_, _-_}
+use Prim.Native.Nat.{ℕ, suc, _≤_, _-_}
 use mathlib.Core.Path.{sym, subst}
 use mathlib.Core.List.{[]}
 use native.Mathlib.Omega.{arith}
@@ -42,7 +42,7 @@ loop-again c =
     let asks = c .before .asked .ensures in (
       omega arith,
       subst (Short sought (given .args .start)) (sym asks)
-          (short-more sought (given .args .start) (given .args .limit) (demand-rises (tasksOf (given .args .table) (given .args .interval) []) (given .args .sought)) (at .trial) (at .inv .1) (subst (λ (n : ℕ). at .trial < n) asks (c .if1 .left))),
+          (short-more sought (given .args .start) (given .args .limit) (demand-rises (tasksOf (given .args .table) (given .args .interval) []) (given .args .sought)) (at .trial) (at .inv .1)),
     )
 
 returns-2 : tie.Need-returns-2 Inv-loop μ-loop
