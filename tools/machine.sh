@@ -24,14 +24,19 @@ run_rattle() {
 # Sets c_compiler to a compiler for x86-64, which is installed from Debian's packages where it is missing and root asks.
 find_c_compiler() {
     case $(uname -m) in
-    x86_64) c_compiler=gcc c_package=gcc ;;
-    *) c_compiler=x86_64-linux-gnu-gcc c_package=gcc-x86-64-linux-gnu ;;
+    x86_64) c_compiler=gcc c_packages='gcc libc6-dev' ;;
+    *) c_compiler=x86_64-linux-gnu-gcc c_packages='gcc-x86-64-linux-gnu libc6-dev-amd64-cross' ;;
     esac
     command -v "$c_compiler" >/dev/null 2>&1 && return 0
     [ "$(id -u)" = 0 ] && command -v apt-get >/dev/null 2>&1 || return 1
-    echo "$0: installing Debian's package $c_package" >&2
-    { apt-get install -y "$c_package" || { apt-get update && apt-get install -y "$c_package"; }; } >/dev/null 2>&1
+    echo "$0: installing Debian's packages $c_packages" >&2
+    # shellcheck disable=SC2086
+    install_c_compiler $c_packages || { apt-get update && install_c_compiler $c_packages; } >/dev/null 2>&1
     command -v "$c_compiler" >/dev/null 2>&1
+}
+
+install_c_compiler() {
+    DEBIAN_FRONTEND=noninteractive apt-get install -y "$@" >/dev/null 2>&1
 }
 
 # Compiles C against the library: OUTPUT, then sources and flags.
