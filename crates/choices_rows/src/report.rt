@@ -53,21 +53,6 @@ fn each_byte(list: &[u8]) {
     }
 }
 
-// Whether two lists are the same.
-fn is_same(left: &[u8], right: &[u8]) -> bool {
-    if left.len() != right.len() {
-        return false;
-    }
-    let mut place: usize = 0;
-    while place < left.len() {
-        if left[place] != right[place] {
-            return false;
-        }
-        place += 1;
-    }
-    true
-}
-
 // Begins a row's line with its name.
 pub fn name(row: &[u8]) {
     text(row);
@@ -113,7 +98,7 @@ pub fn choices(
     expected: Listing,
     expected_bytes: &[u8],
 ) -> Tally {
-    let is_expected = is_same(bytes, expected_bytes)
+    let is_expected = check::same(bytes, expected_bytes)
         & (answer.refusal == expected.refusal)
         & (answer.entries == expected.entries);
     whole(answer, bytes);

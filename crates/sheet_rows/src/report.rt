@@ -56,21 +56,6 @@ fn bytes(list: &[u8]) {
     each_byte(list);
 }
 
-// Whether two lists are the same.
-pub fn is_same(left: &[u8], right: &[u8]) -> bool {
-    if left.len() != right.len() {
-        return false;
-    }
-    let mut place: usize = 0;
-    while place < left.len() {
-        if left[place] != right[place] {
-            return false;
-        }
-        place += 1;
-    }
-    true
-}
-
 // Writes a number after a space.
 pub fn spaced(value: u64) {
     text(b" ");
@@ -106,7 +91,7 @@ pub fn row(tally: Tally, answer: u64, expected: u64) -> Tally {
 
 // The rest of a row whose answer is a list of bytes.
 pub fn list(tally: Tally, answer: &[u8], expected: &[u8]) -> Tally {
-    let is_expected = is_same(answer, expected);
+    let is_expected = check::same(answer, expected);
     bytes(answer);
     if !is_expected {
         wanted();

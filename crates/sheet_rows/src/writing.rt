@@ -86,7 +86,7 @@ fn written(
     let mut buffer = filled(0);
     begin(name, length);
     let answer = write_into(table, &mut buffer, length);
-    let is_same = report::is_same(&buffer, &expected);
+    let is_same = check::same(&buffer, &expected);
     answered(tally, answer, is_same, refusal, written)
 }
 
