@@ -16,6 +16,7 @@
 #include "sheets.h"
 
 #define UNTOUCHED 0xA5
+#define DEADLINE_NUMBER 2
 #define LENGTH(array) (sizeof(array) / sizeof((array)[0]))
 
 /* The calls of one side. */
@@ -39,12 +40,17 @@ struct packed {
 /* One measured use of a side; answers and bytes are compared between the sides. */
 typedef int64_t measured_use(const struct side *side, const struct packed *sheet, uint8_t *out);
 
-/* One line of a table; a count of 0 takes the sheet's own, and the times are the shortest so far. */
+/*
+ * One line of a table. A count of 0 takes the sheet's own; a deadline that is not 0 takes the place of the one in the
+ * record at the place (from 0). The times are the shortest so far.
+ */
 struct row {
     const char *name;
     measured_use *use;
     const struct sheet *sheet;
     uint8_t count;
+    uint8_t place;
+    uint16_t deadline;
     const char *reason;
     double seconds[2];
 };
@@ -162,9 +168,9 @@ static struct row main_rows[] = {
     {.name = "all 8 responses", .use = use_responses, .sheet = &everyday},
     {.name = "verdict on 8 tasks, passing", .use = use_verdict, .sheet = &everyday},
     {.name = "list of 8 tasks, all 40320 pass", .use = use_list, .sheet = &everyday},
-    {.name = "list of 8 tasks, 20160 pass", .use = use_list, .sheet = &half_passing},
-    {.name = "list of 8 tasks, none: first record late", .use = use_list, .sheet = &refuted_first},
-    {.name = "list of 8 tasks, none: last record late", .use = use_list, .sheet = &refuted_last},
+    {.name = "list of 8 tasks, 20160 pass", .use = use_list, .sheet = &everyday, .place = 3, .deadline = 210},
+    {.name = "list of 8 tasks, none: first record late", .use = use_list, .sheet = &everyday, .deadline = 250},
+    {.name = "list of 8 tasks, none: last record late", .use = use_list, .sheet = &everyday, .place = 7, .deadline = 39},
     {.name = "least interval of 8 tasks, 257", .use = use_least_interval, .sheet = &everyday},
     {.name = "walk through all 720 of 6 tasks", .use = use_walk, .sheet = &everyday, .count = 6},
 };
@@ -217,9 +223,12 @@ static double now(void)
 /* The bytes of a row's sheet; a row whose sheet is not good ends the program. */
 static struct packed pack(const struct row *row)
 {
-    const struct sheet *sheet = row->sheet;
-    struct packed packed = {.count = row->count != 0 ? row->count : sheet->count};
-    int64_t len = fq_write((uint8_t)packed.count, sheet->interval, sheet->fields, LENGTH(sheet->fields),
+    struct sheet sheet = *row->sheet;
+    struct packed packed = {.count = row->count != 0 ? row->count : sheet.count};
+
+    if (row->deadline != 0)
+        sheet.fields[FQ_RECORD_NUMBERS * row->place + DEADLINE_NUMBER] = row->deadline;
+    int64_t len = fq_write((uint8_t)packed.count, sheet.interval, sheet.fields, LENGTH(sheet.fields),
                            packed.bytes, sizeof packed.bytes);
 
     if (len <= 0) {

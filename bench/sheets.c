@@ -13,42 +13,6 @@ const struct sheet everyday = {8, 350, {
      30,  10,  300,  300, 8, 7,
 }};
 
-/* The everyday sheet with a deadline of 250 in the first record, which is too early for any choice. */
-const struct sheet refuted_first = {8, 350, {
-    190,  70,  250, 2000, 1, 1,
-     90, 115, 1330, 1600, 2, 1,
-     65,  60,  960, 1200, 3, 1,
-     40,  45,  900, 1000, 4, 2,
-     15,  60,  800,  800, 5, 2,
-     10,  45,  560,  600, 6, 3,
-     30,  25,  390,  400, 7, 7,
-     30,  10,  300,  300, 8, 7,
-}};
-
-/* The everyday sheet with a deadline of 39 in the last record, which its cost and backup alone pass. */
-const struct sheet refuted_last = {8, 350, {
-    190,  70, 1770, 2000, 1, 1,
-     90, 115, 1330, 1600, 2, 1,
-     65,  60,  960, 1200, 3, 1,
-     40,  45,  900, 1000, 4, 2,
-     15,  60,  800,  800, 5, 2,
-     10,  45,  560,  600, 6, 3,
-     30,  25,  390,  400, 7, 7,
-     30,  10,   39,  300, 8, 7,
-}};
-
-/* The everyday sheet with a deadline of 210 in the fourth record, at which 20160 choices pass. */
-const struct sheet half_passing = {8, 350, {
-    190,  70, 1770, 2000, 1, 1,
-     90, 115, 1330, 1600, 2, 1,
-     65,  60,  960, 1200, 3, 1,
-     40,  45,  210, 1000, 4, 2,
-     15,  60,  800,  800, 5, 2,
-     10,  45,  560,  600, 6, 3,
-     30,  25,  390,  400, 7, 7,
-     30,  10,  300,  300, 8, 7,
-}};
-
 /* A fault at every tick: the first record, struck itself, gains one tick a step until it is late at 65535. */
 const struct sheet slow_response = {8, 1, {
     1, 1, 65535, 65535, 7, 6,

@@ -12,9 +12,6 @@ struct sheet {
 };
 
 extern const struct sheet everyday;
-extern const struct sheet refuted_first;
-extern const struct sheet refuted_last;
-extern const struct sheet half_passing;
 
 extern const struct sheet slow_response;
 extern const struct sheet slow_verdict;

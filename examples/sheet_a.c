@@ -19,15 +19,17 @@ static const uint16_t numbers[COUNT * FQ_RECORD_NUMBERS] = {
     1, 1, 35, 35, 1, 1,
 };
 
-/* Prints each task's response time, or that it is late. */
+/* Prints each task's response time, or that it is late. A negative answer is neither: it is a refusal. */
 static void print_responses(const uint8_t *sheet, size_t length)
 {
     for (size_t place = 0; place < COUNT; place++) {
         int64_t time = fq_response(sheet, length, place);
-        if (time > 0)
-            printf("task %zu: %" PRId64 " ticks\n", place + 1, time);
-        else
+        if (time < 0)
+            printf("task %zu: refused by rule %" PRId64 "\n", place + 1, -time);
+        else if (time == 0)
             printf("task %zu: late\n", place + 1);
+        else
+            printf("task %zu: %" PRId64 " ticks\n", place + 1, time);
     }
 }
 

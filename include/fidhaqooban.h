@@ -11,22 +11,14 @@
  *   - nobody else writes the lent bytes before the call returns.
  *
  * The answer of a refused call is the number of the first rule broken, in the order in which the rules
- * are tried; where the answer is an int64_t, that number with a minus sign. A refused call changes no
- * byte of `out`; one that is not changes the bytes that it writes and none after them.
+ * are tried (enum fq_refusal); where the answer is an int64_t, that number with a minus sign. A refused call
+ * changes no byte of `out`; one that is not changes the bytes that it writes and none after them.
  *
- *     1  the sheet has fewer than 3 bytes
- *     2  the count is 0 or above 8
- *     3  a reserved bit is set
- *     4  the length is not 3 + 9 x count
- *     5  the fault interval is 0
- *     6  a cost is 0 or above its deadline
- *     7  a backup is 0 or above its deadline
- *     8  a deadline is above its period
- *     9  a priority is outside 1 to the count, or an earlier record has it
- *    10  a fault priority is outside 1 to the record's own priority
- *    12  the record place asked for is not below the count
- *    13  the choice to go on after is not allowed
- *    11  the lent output is shorter than what is to be written (tried last)
+ * Memory and time: no heap, no state, no call of anything outside the library; FQ_STACK_BYTES bounds the stack.
+ * The x86-64 code uses the SSE registers, so whoever calls it where these are not saved (a kernel, an
+ * interrupt handler) saves them first. fq_judge, fq_write, fq_rewrite and fq_record take about a microsecond;
+ * fq_response and fq_verdict microseconds to milliseconds; fq_least_interval, fq_next and fq_list judge up to
+ * 65535 intervals or 40320 choices and CAN TAKE MINUTES on a sheet of eight tasks (docs/PERFORMANCE.md).
  *
  * Build the library with `rt staticlib fidhaqooban` and link target/staticlib/libfidhaqooban.a (x86-64).
  */
@@ -39,6 +31,32 @@
 #ifdef __cplusplus
 extern "C" {
 #endif
+
+/* The version of this header and library; `./desk --version` prints the same. */
+#define FQ_VERSION "1.0.0"
+
+/*
+ * What a refused call gives, in the order in which the rules are tried: the number of the first rule broken,
+ * with a minus sign where the answer is an int64_t.
+ */
+enum fq_refusal {
+    FQ_SHORT_SHEET = 1,         /* the sheet has fewer than 3 bytes */
+    FQ_BAD_COUNT = 2,           /* the count is 0 or above 8 */
+    FQ_RESERVED_BIT = 3,        /* a reserved bit is set */
+    FQ_BAD_LENGTH = 4,          /* the length is not 3 + 9 x count */
+    FQ_NO_INTERVAL = 5,         /* the fault interval is 0 */
+    FQ_BAD_COST = 6,            /* a cost is 0 or above its deadline */
+    FQ_BAD_BACKUP = 7,          /* a backup is 0 or above its deadline */
+    FQ_BAD_DEADLINE = 8,        /* a deadline is above its period */
+    FQ_BAD_PRIORITY = 9,        /* a priority is outside 1 to the count, or an earlier record has it */
+    FQ_BAD_FAULT_PRIORITY = 10, /* a fault priority is outside 1 to the record's own priority */
+    FQ_BAD_PLACE = 12,          /* the record place asked for is not below the count */
+    FQ_BAD_CHOICE = 13,         /* the choice to go on after is neither 0 nor allowed */
+    FQ_SHORT_OUTPUT = 11        /* the lent output is shorter than what is to be written: tried last */
+};
+
+/* More stack than any call needs, in bytes (bench/run measures it). */
+#define FQ_STACK_BYTES 4096
 
 /* The longest sheet, eight tasks, and the longest list, all 8! choices of such a sheet, in bytes. */
 #define FQ_SHEET_BYTES 75
@@ -91,8 +109,8 @@ int64_t fq_least_interval(const uint8_t *sheet, size_t len);
 
 /*
  * The next choice of fault priorities under which the sheet passes, after any allowed choice. A choice is a
- * number of 32 bits: four bits for each record in record order, the first record's highest, the rest zero.
- * 0 stands before the first choice.
+ * number of 32 bits: four bits for each record in record order, the first record's highest, the rest zero;
+ * with three records, fault priorities 3, 2 and 1 are 0x32100000. 0 stands before the first choice.
  * Answer: the choice, 0 at the end, or minus the refusal (1 to 10, 13).
  */
 int64_t fq_next(const uint8_t *sheet, size_t len, uint32_t after);

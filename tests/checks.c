@@ -119,17 +119,6 @@ static const uint8_t *laid(const struct comparison *comparison)
     return comparison->input + comparison->sheet_start;
 }
 
-/* Compares the judgement of the sheet. */
-uint8_t check_judge(struct comparison *comparison)
-{
-    const uint8_t *sheet = laid(comparison);
-    struct call call = {.function = "fq_judge"};
-    call.library = fq_judge(sheet, comparison->sheet_length);
-    call.plain = plain_judge(sheet, comparison->sheet_length);
-    settle_call(comparison, &call);
-    return (uint8_t)call.plain;
-}
-
 /* Compares the writing of a table; the library gets a copy of the numbers, which must not change. */
 int64_t check_write(struct comparison *comparison, const struct writing *writing, size_t out_len)
 {
@@ -146,51 +135,84 @@ int64_t check_write(struct comparison *comparison, const struct writing *writing
     return call.plain;
 }
 
-/* Compares the rewriting of the sheet into an output of a length. */
-int64_t check_rewrite(struct comparison *comparison, size_t out_len)
+/* A function that writes what it makes of a sheet into an output. */
+typedef int64_t writing_call(const uint8_t *sheet, size_t len, uint8_t *out, size_t out_len);
+
+/* Compares such a function on an output of a length. */
+static int64_t check_output(struct comparison *comparison, const char *function, writing_call *library,
+                            writing_call *plain, size_t out_len)
 {
     const uint8_t *sheet = laid(comparison);
-    struct call call = {.function = "fq_rewrite", .argument = out_len};
+    size_t length = comparison->sheet_length;
+    struct call call = {.function = function, .argument = out_len};
     lend(comparison, out_len);
-    call.library =
-        fq_rewrite(sheet, comparison->sheet_length, comparison->lent_to_library + MARGIN, out_len);
-    call.plain =
-        plain_rewrite(sheet, comparison->sheet_length, comparison->lent_to_plain + MARGIN, out_len);
+    call.library = library(sheet, length, comparison->lent_to_library + MARGIN, out_len);
+    call.plain = plain(sheet, length, comparison->lent_to_plain + MARGIN, out_len);
     settle_lent(comparison, &call, out_len);
+    return call.plain;
+}
+
+/* Compares the rewriting of the sheet. */
+int64_t check_rewrite(struct comparison *comparison, size_t out_len)
+{
+    return check_output(comparison, "fq_rewrite", fq_rewrite, plain_rewrite, out_len);
+}
+
+/* Compares the list of choices. */
+int64_t check_list(struct comparison *comparison, size_t out_len)
+{
+    return check_output(comparison, "fq_list", fq_list, plain_list, out_len);
+}
+
+/* A function that answers for the record at a place. */
+typedef int64_t place_call(const uint8_t *sheet, size_t len, size_t place);
+
+/* Compares such a function at a place. */
+static int64_t check_place(struct comparison *comparison, const char *function, place_call *library,
+                           place_call *plain, size_t place)
+{
+    const uint8_t *sheet = laid(comparison);
+    struct call call = {.function = function, .argument = place};
+    call.library = library(sheet, comparison->sheet_length, place);
+    call.plain = plain(sheet, comparison->sheet_length, place);
+    settle_call(comparison, &call);
     return call.plain;
 }
 
 /* Compares where the record at a place starts. */
 int64_t check_record(struct comparison *comparison, size_t place)
 {
-    const uint8_t *sheet = laid(comparison);
-    struct call call = {.function = "fq_record", .argument = place};
-    call.library = fq_record(sheet, comparison->sheet_length, place);
-    call.plain = plain_record(sheet, comparison->sheet_length, place);
-    settle_call(comparison, &call);
-    return call.plain;
+    return check_place(comparison, "fq_record", fq_record, plain_record, place);
 }
 
 /* Compares the response time at a place. */
 int64_t check_response(struct comparison *comparison, size_t place)
 {
-    const uint8_t *sheet = laid(comparison);
-    struct call call = {.function = "fq_response", .argument = place};
-    call.library = fq_response(sheet, comparison->sheet_length, place);
-    call.plain = plain_response(sheet, comparison->sheet_length, place);
+    return check_place(comparison, "fq_response", fq_response, plain_response, place);
+}
+
+/* Compares the library's answer to a question about the whole sheet with the expected one. */
+static void check_whole(struct comparison *comparison, const char *function, uint64_t argument,
+                        int64_t library, int64_t expected)
+{
+    struct call call = {.function = function, .argument = argument, .library = library, .plain = expected};
     settle_call(comparison, &call);
-    return call.plain;
+}
+
+/* Compares the judgement of the sheet. */
+uint8_t check_judge(struct comparison *comparison)
+{
+    uint8_t expected = plain_judge(laid(comparison), comparison->sheet_length);
+    check_whole(comparison, "fq_judge", 0, fq_judge(laid(comparison), comparison->sheet_length), expected);
+    return expected;
 }
 
 /* Compares the verdict. */
 int64_t check_verdict(struct comparison *comparison)
 {
-    const uint8_t *sheet = laid(comparison);
-    struct call call = {.function = "fq_verdict"};
-    call.library = fq_verdict(sheet, comparison->sheet_length);
-    call.plain = plain_verdict(sheet, comparison->sheet_length);
-    settle_call(comparison, &call);
-    return call.plain;
+    int64_t expected = plain_verdict(laid(comparison), comparison->sheet_length);
+    check_whole(comparison, "fq_verdict", 0, fq_verdict(laid(comparison), comparison->sheet_length), expected);
+    return expected;
 }
 
 /* Compares the least interval. */
@@ -204,9 +226,8 @@ int64_t check_least_interval(struct comparison *comparison)
 /* Compares the library's least interval with what is already known. */
 void check_interval(struct comparison *comparison, int64_t expected)
 {
-    struct call call = {.function = "fq_least_interval", .plain = expected};
-    call.library = fq_least_interval(laid(comparison), comparison->sheet_length);
-    settle_call(comparison, &call);
+    check_whole(comparison, "fq_least_interval", 0,
+                fq_least_interval(laid(comparison), comparison->sheet_length), expected);
 }
 
 /* Compares the step after a choice, allowed or not. */
@@ -220,22 +241,8 @@ int64_t check_next(struct comparison *comparison, uint32_t after)
 /* Compares one step of the library with what is already known. */
 void check_step(struct comparison *comparison, uint32_t after, int64_t expected)
 {
-    struct call call = {.function = "fq_next", .argument = after, .plain = expected};
-    call.library = fq_next(laid(comparison), comparison->sheet_length, after);
-    settle_call(comparison, &call);
-}
-
-/* Compares the list of choices in an output of a length. */
-int64_t check_list(struct comparison *comparison, size_t out_len)
-{
-    const uint8_t *sheet = laid(comparison);
-    struct call call = {.function = "fq_list", .argument = out_len};
-    lend(comparison, out_len);
-    call.library =
-        fq_list(sheet, comparison->sheet_length, comparison->lent_to_library + MARGIN, out_len);
-    call.plain = plain_list(sheet, comparison->sheet_length, comparison->lent_to_plain + MARGIN, out_len);
-    settle_lent(comparison, &call, out_len);
-    return call.plain;
+    check_whole(comparison, "fq_next", after, fq_next(laid(comparison), comparison->sheet_length, after),
+                expected);
 }
 
 /* Puts the four bytes of an entry together, the first one highest. */

@@ -161,6 +161,22 @@ static enum refusal read_sheet(const uint8_t *sheet, size_t len, struct table *t
     return judge_table(table);
 }
 
+/* Reads a sheet into a table: 0, or minus the refusal. */
+static int64_t refused(const uint8_t *sheet, size_t len, struct table *table)
+{
+    return -(int64_t)read_sheet(sheet, len, table);
+}
+
+/* The same for the record at a place of the sheet. */
+static int64_t refused_at(const uint8_t *sheet, size_t len, size_t place, struct table *table)
+{
+    int64_t refusal = refused(sheet, len, table);
+    if (refusal == 0 && place >= table->count) {
+        return -NO_SUCH_RECORD;
+    }
+    return refusal;
+}
+
 /* Writes a good table where there is room for it; the answer is that of plain_write and plain_rewrite. */
 static int64_t write_table(const struct table *table, uint8_t *out, size_t out_len)
 {
@@ -229,69 +245,62 @@ static uint64_t cost_above(const struct table *table, uint64_t level, size_t lef
     return sum;
 }
 
-/* The time of a record when faults hit other tasks only, or no time within its deadline. */
-static uint64_t struck_elsewhere(const struct table *table, size_t place)
+/* What a length has to be at least, of a record and of the length of a stage before. */
+typedef uint64_t needed_length(const struct table *table, size_t place, uint64_t before, uint64_t length);
+
+/* The least length from the one before on that is at least what is needed, or no time within the deadline. */
+static uint64_t least_length(needed_length *needed, const struct table *table, size_t place, uint64_t before)
 {
-    const struct record *own = &table->records[place];
-    uint64_t backup = largest_backup(table, own->priority, place);
-    for (uint64_t length = 1; length <= own->deadline; length++) {
-        uint64_t needed = own->cost + cost_above(table, own->priority, NOBODY, length) +
-                          up(length, table->interval) * backup;
-        if (length >= needed) {
+    for (uint64_t length = before; length <= table->records[place].deadline; length++) {
+        if (length >= needed(table, place, before, length)) {
             return length;
         }
     }
     return NO_TIME;
 }
 
-/* Stage one of a record struck itself, from the fault on, or no time within its deadline. */
-static uint64_t stage_one(const struct table *table, size_t place)
+/* What a record needs when faults hit other tasks only. */
+static uint64_t struck_elsewhere(const struct table *table, size_t place, uint64_t before, uint64_t length)
 {
     const struct record *own = &table->records[place];
-    uint64_t backup = largest_backup(table, own->fault_priority, NOBODY);
-    for (uint64_t length = 1; length <= own->deadline; length++) {
-        uint64_t needed = own->backup + cost_above(table, own->fault_priority, place, length) +
-                          (up(length, table->interval) - 1) * backup;
-        if (length >= needed) {
-            return length;
-        }
-    }
-    return NO_TIME;
+    (void)before;
+    return own->cost + cost_above(table, own->priority, NOBODY, length) +
+           up(length, table->interval) * largest_backup(table, own->priority, place);
 }
 
-/* Stage two of a record struck itself, after a first stage, or no time within its deadline. */
-static uint64_t stage_two(const struct table *table, size_t place, uint64_t first)
+/* What stage one of a record struck itself needs, from the fault on. */
+static uint64_t stage_one(const struct table *table, size_t place, uint64_t before, uint64_t length)
 {
     const struct record *own = &table->records[place];
-    uint64_t backup = largest_backup(table, own->priority, NOBODY);
-    for (uint64_t length = first; length <= own->deadline; length++) {
-        uint64_t needed = first + own->cost;
-        for (size_t higher = 0; higher < table->count; higher++) {
-            const struct record *other = &table->records[higher];
-            if (other->priority > own->priority) {
-                needed += (up(length, other->period) - up(first, other->period)) * other->cost;
-            }
-        }
-        needed += (up(length, table->interval) - up(first, table->interval)) * backup;
-        if (length >= needed) {
-            return length;
+    (void)before;
+    return own->backup + cost_above(table, own->fault_priority, place, length) +
+           (up(length, table->interval) - 1) * largest_backup(table, own->fault_priority, NOBODY);
+}
+
+/* What stage two of a record struck itself needs, after stage one. */
+static uint64_t stage_two(const struct table *table, size_t place, uint64_t before, uint64_t length)
+{
+    const struct record *own = &table->records[place];
+    uint64_t needed = before + own->cost;
+    for (size_t higher = 0; higher < table->count; higher++) {
+        const struct record *other = &table->records[higher];
+        if (other->priority > own->priority) {
+            needed += (up(length, other->period) - up(before, other->period)) * other->cost;
         }
     }
-    return NO_TIME;
+    return needed + (up(length, table->interval) - up(before, table->interval)) *
+                        largest_backup(table, own->priority, NOBODY);
 }
 
 /* The response time of a record, or no time where it is late. */
 static uint64_t response_time(const struct table *table, size_t place)
 {
-    uint64_t elsewhere = struck_elsewhere(table, place);
-    if (elsewhere == NO_TIME) {
+    uint64_t elsewhere = least_length(struck_elsewhere, table, place, 1);
+    uint64_t first = least_length(stage_one, table, place, 1);
+    if (elsewhere == NO_TIME || first == NO_TIME) {
         return NO_TIME;
     }
-    uint64_t first = stage_one(table, place);
-    if (first == NO_TIME) {
-        return NO_TIME;
-    }
-    uint64_t itself = stage_two(table, place, first);
+    uint64_t itself = least_length(stage_two, table, place, first);
     if (itself == NO_TIME) {
         return NO_TIME;
     }
@@ -397,59 +406,41 @@ int64_t plain_write(uint8_t count, uint16_t interval, const uint16_t *fields, si
 int64_t plain_rewrite(const uint8_t *sheet, size_t len, uint8_t *out, size_t out_len)
 {
     struct table table;
-    enum refusal refusal = read_sheet(sheet, len, &table);
-    if (refusal != GOOD) {
-        return -(int64_t)refusal;
-    }
-    return write_table(&table, out, out_len);
+    int64_t refusal = refused(sheet, len, &table);
+    return refusal != 0 ? refusal : write_table(&table, out, out_len);
 }
 
 /* Where the record at a place starts. */
 int64_t plain_record(const uint8_t *sheet, size_t len, size_t place)
 {
     struct table table;
-    enum refusal refusal = read_sheet(sheet, len, &table);
-    if (refusal != GOOD) {
-        return -(int64_t)refusal;
-    }
-    if (place >= table.count) {
-        return -NO_SUCH_RECORD;
-    }
-    return (int64_t)(HEADER_BYTES + RECORD_BYTES * place);
+    int64_t refusal = refused_at(sheet, len, place, &table);
+    return refusal != 0 ? refusal : (int64_t)(HEADER_BYTES + RECORD_BYTES * place);
 }
 
 /* The response time of the record at a place. */
 int64_t plain_response(const uint8_t *sheet, size_t len, size_t place)
 {
     struct table table;
-    enum refusal refusal = read_sheet(sheet, len, &table);
-    if (refusal != GOOD) {
-        return -(int64_t)refusal;
-    }
-    if (place >= table.count) {
-        return -NO_SUCH_RECORD;
-    }
-    return (int64_t)response_time(&table, place);
+    int64_t refusal = refused_at(sheet, len, place, &table);
+    return refusal != 0 ? refusal : (int64_t)response_time(&table, place);
 }
 
 /* Whether the sheet passes. */
 int64_t plain_verdict(const uint8_t *sheet, size_t len)
 {
     struct table table;
-    enum refusal refusal = read_sheet(sheet, len, &table);
-    if (refusal != GOOD) {
-        return -(int64_t)refusal;
-    }
-    return passes(&table);
+    int64_t refusal = refused(sheet, len, &table);
+    return refusal != 0 ? refusal : passes(&table);
 }
 
 /* The first interval of all, from 1 up, at which the sheet passes. */
 int64_t plain_least_interval(const uint8_t *sheet, size_t len)
 {
     struct table table;
-    enum refusal refusal = read_sheet(sheet, len, &table);
-    if (refusal != GOOD) {
-        return -(int64_t)refusal;
+    int64_t refusal = refused(sheet, len, &table);
+    if (refusal != 0) {
+        return refusal;
     }
     for (uint32_t interval = 1; interval <= LONGEST_INTERVAL; interval++) {
         table.interval = interval;
@@ -464,9 +455,9 @@ int64_t plain_least_interval(const uint8_t *sheet, size_t len)
 int64_t plain_next(const uint8_t *sheet, size_t len, uint32_t after)
 {
     struct table table;
-    enum refusal refusal = read_sheet(sheet, len, &table);
-    if (refusal != GOOD) {
-        return -(int64_t)refusal;
+    int64_t refusal = refused(sheet, len, &table);
+    if (refusal != 0) {
+        return refusal;
     }
     if (!allowed_after(&table, after)) {
         return -BAD_CHOICE;
@@ -484,9 +475,9 @@ int64_t plain_next(const uint8_t *sheet, size_t len, uint32_t after)
 int64_t plain_list(const uint8_t *sheet, size_t len, uint8_t *out, size_t out_len)
 {
     struct table table;
-    enum refusal refusal = read_sheet(sheet, len, &table);
-    if (refusal != GOOD) {
-        return -(int64_t)refusal;
+    int64_t refusal = refused(sheet, len, &table);
+    if (refusal != 0) {
+        return refusal;
     }
     uint32_t passing[MOST_CHOICES];
     size_t entries = 0;

@@ -121,11 +121,3 @@ least-later asked start later limit past short = go (least-says asked later limi
     go : {r : ℕ} → Least asked later limit r → r ≡ leastWithin asked start limit
     go (none rest) = sym (least-none asked start limit (suc limit) (omega arith) (short-join asked short rest))
     go (least {L = L} low high fits rest) = sym (least-found asked start limit L (omega arith) high (short-join asked short rest) fits)
-
--- the least is within the limit
-pub least-within : (f : ℕ → ℕ) (start limit : ℕ) → leastWithin f start limit ≤ limit
-least-within f start limit = go (least-says f start limit)
-  where
-    go : {r : ℕ} → Least f start limit r → r ≤ limit
-    go (none short) = omega arith
-    go (least low high fits short) = high

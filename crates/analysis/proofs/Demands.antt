@@ -1,20 +1,24 @@
 -- The demands on times in the request's words, about the definitions: the least times, the response, late, the verdict, the least interval.
--- That rounding up gives the least k with a ≤ k × b is `up-enough` and `up-least` of Rounding.antt. Assumes nothing.
+-- That rounding up gives the least k with a ≤ k × b is `up-enough` and `up-least` of Rounding.antt; what stands beside a refusal is in Refused.antt. Assumes nothing.
 use Prim.Native.Nat.{ℕ, suc, _≤_, _<_, max}
-use mathlib.Core.Path.{_≡_, sym, ap, _∙_, subst}
+use mathlib.Core.Path.{_≡_, refl, sym, ap, _∙_, subst}
 use mathlib.Core.Bool.{Bool, true, false, not, true≢false}
+use mathlib.Core.List.{List}
 use mathlib.Core.Logic.{_↔_}
 use native.Mathlib.Decide.{ℕ-discrete}
 use native.Mathlib.Omega.{arith}
 use borrow.Author.Tests.{eq-eqb, ne-eqb, not-true}
 use Rattle.sheet.specs.declared.Table.{Table}
 use Rattle.sheet.specs.Places.{someBelow}
+use Rattle.sheet.specs.Rules.{tableRefusal}
 use Rattle.analysis.specs.Tasks.{Tasks, tasksOf, ownChoice}
 use Rattle.analysis.specs.Equations.{struckElsewhere, stageOne, stageTwo}
 use Rattle.analysis.specs.Search.{leastWithin}
 use Rattle.analysis.specs.Response.{timeElsewhere, lengthOne, timeItself, responseTime, passes}
 use Rattle.analysis.specs.Answers.{leastInterval}
 use Rattle.analysis.proofs.Climbing.{Fails, Says, first-says, first-found, first-none, Least, least-says, least-found, least-none}
+use Rattle.analysis.proofs.Choice.{Within, own-within}
+use Rattle.analysis.proofs.EachTick.{Never, never-one, never-two, some-never}
 use Rattle.analysis.proofs.Verdicts.{late, itself-none, itself-some, late-elsewhere, late-itself, on-time, some-found, none-below}
 
 -- L is at least what is asked of it, from the start and within the limit, and every smaller number from the start fails that
@@ -93,6 +97,7 @@ module _ (s : Tasks) (i : ℕ) where
       go (yes z) = sym (late-elsewhere s i z)
       go (no z) = sym (late-itself s i z e)
 
+  -- a task is late exactly if it is so in one of them
   pub late-exactly : (responseTime s i ≡ 0) ↔ Missing
   late-exactly = (λ e. first (ℕ-discrete (timeElsewhere s i) 0) e, back)
     where
@@ -121,6 +126,22 @@ passes-exactly s = (
   λ each. ap not (none-below (late s) (s .count) (λ i below. ne-eqb (responseTime s i) 0 (each i below))),
 )
 
+-- at E = 1, where a fault comes each tick, no good table passes, whatever the choice: the lower of two tasks has no L1, a task alone no time
+pub fails-at-1 : (t : Table) → tableRefusal t ≡ 0 → (choice : List ℕ) → Within t choice → passes (tasksOf t 1 choice) ≡ false
+fails-at-1 t good choice within = go (passes (tasksOf t 1 choice)) refl (some-never t good choice within)
+  where
+    late-never : {i : ℕ} → Never (tasksOf t 1 choice) i → responseTime (tasksOf t 1 choice) i ≡ 0
+    late-never {i} (never-one never) = late-exactly (tasksOf t 1 choice) i .1 (no-length-one (λ k low high. never k low))
+    late-never {i} (never-two never) = second (ℕ-discrete (lengthOne (tasksOf t 1 choice) i) 0)
+      where
+        second : Dec (lengthOne (tasksOf t 1 choice) i ≡ 0) → responseTime (tasksOf t 1 choice) i ≡ 0
+        second (yes z) = itself-late (tasksOf t 1 choice) i (sym (itself-none (tasksOf t 1 choice) i z))
+        second (no z) = late-exactly (tasksOf t 1 choice) i .1 (no-time-itself (omega arith) (λ k low high. never (lengthOne (tasksOf t 1 choice) i) k low))
+
+    go : (b : Bool) → passes (tasksOf t 1 choice) ≡ b → (i : ℕ) × (i < t .count) × Never (tasksOf t 1 choice) i → b ≡ false
+    go true e w = absurd (passes-exactly (tasksOf t 1 choice) .0 e (w .0) (w .1) (late-never (w .2)))
+    go false e w = refl
+
 -- whether a table passes at an interval, with its own fault priorities
 abbrev pub passesAt : Table → ℕ → Bool
 passesAt t interval = passes (tasksOf t interval (ownChoice (t .records)))
@@ -144,3 +165,8 @@ interval-none t = (λ e. go (first-says (passesAt t) 65535 1) e, λ fails. first
     go : {r : ℕ} → Says (passesAt t) 1 65535 r → r ≡ 0 → (e : ℕ) → 1 ≤ e → e ≤ 65535 → passesAt t e ≡ false
     go (Says.none fails) e k low high = fails k low (omega arith)
     go (Says.found first last fails holds) e k low high = absurd (omega arith)
+
+-- no least interval of a good table is 1
+pub interval-not-1 : (t : Table) → tableRefusal t ≡ 0 → leastInterval t ≡ 1 → ⊥
+interval-not-1 t good e =
+    true≢false (sym (interval-least t 1 (omega arith) .0 e .1) ∙ fails-at-1 t good (ownChoice (t .records)) (own-within t good))

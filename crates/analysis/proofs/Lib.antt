@@ -5,5 +5,8 @@ pub mod Climbing
 pub mod Tied
 pub mod Found
 pub mod Verdicts
+pub mod Choice
+pub mod EachTick
 pub mod Demands
+pub mod Refused
 pub mod Unique

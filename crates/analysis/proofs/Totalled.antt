@@ -2,7 +2,7 @@
 use Prim.Native.Nat.{ℕ, zero, suc, _+_, _-_, _≤_, _<_, max}
 use mathlib.Core.Path.{_≡_, refl, ap, ap₂}
 use mathlib.Core.Logic.{⊎-elim}
-use native.Mathlib.Nat.{le-refl, add-le-add, eq-or-lt-of-le, le-of-suc-le-suc}
+use native.Mathlib.Nat.{le-refl, add-le-add, eq-or-lt-of-le, le-of-suc-le-suc, not-suc-le-zero}
 use native.Mathlib.Numerals.{add-one}
 use native.Mathlib.Omega.{arith}
 use Rattle.analysis.specs.Totals.{sumBelow, mostBelow}
@@ -40,6 +40,17 @@ module _ {f g : ℕ → ℕ} where
       let before = sum-less n (λ k h. each k (omega arith)) in
       let more = sum-rises {f = g} {g = f} n (λ k h. each k (omega arith)) in
       omega (arith, before, more, each n (omega arith))
+
+-- what one place has is within the sum, and within the largest
+pub sum-part : (f : ℕ → ℕ) (n k : ℕ) → k < n → f k ≤ sumBelow f n
+unfolding sumBelow
+sum-part f zero k below = absurd (not-suc-le-zero below)
+sum-part f (suc n) k below = ⊎-elim (λ e. omega (arith, ap f e)) (λ lt. omega (arith, sum-part f n k lt)) (eq-or-lt-of-le (le-of-suc-le-suc below))
+
+pub most-part : (f : ℕ → ℕ) (n k : ℕ) → k < n → f k ≤ mostBelow f n
+unfolding mostBelow
+most-part f zero k below = absurd (not-suc-le-zero below)
+most-part f (suc n) k below = ⊎-elim (λ e. omega (arith, ap f e)) (λ lt. omega (arith, most-part f n k lt)) (eq-or-lt-of-le (le-of-suc-le-suc below))
 
 -- the largest is that of one place and of the others, where f is g but at that place, and g is 0 there
 pub most-apart : {f g : ℕ → ℕ} (i n : ℕ) → i < n → g i ≡ 0 → ((k : ℕ) → k < n → (k ≡ i → ⊥) → f k ≡ g k) → max (mostBelow g n) (f i) ≡ mostBelow f n

@@ -18,6 +18,7 @@ use Rattle.analysis.specs.declared.Interval.the-variants.{Refused, Least
 use Rattle.analysis.specs.Tasks.{Tasks, tasksOf, ownChoice}
 use Rattle.analysis.specs.Search.{firstFrom}
 use Rattle.analysis.specs.Response.{responseTime, passes}
+use Rattle.analysis.specs.Allowed.{levelsOf, allAllowed}
 
 -- "either a time or the word late": late stands for the response that has no value
 unfoldable pub outcomeOf : ℕ → Outcome
@@ -48,24 +49,29 @@ unfoldable pub timedAnswer : Table → ℕ → Timed
 timedAnswer t place = record { refusal = timedRefusal t place; entry = cond (eqb (timedRefusal t place) 0) (entryOf (ownTasks t) place) noEntry }
 
 -- the refusal beside yes or no; "the verdict of a refused call is no"
-unfoldable pub passingOf : ℕ → Bool → Passing
-passingOf refusal yes-or-no = record { refusal = refusal; passes = cond (eqb refusal 0) yes-or-no false }
+unfoldable pub verdictOf : ℕ → Bool → Passing
+verdictOf refusal yes-or-no = record { refusal = refusal; passes = cond (eqb refusal 0) yes-or-no false }
 
--- `choice_verdict`: whether the table passes under a choice of fault priorities
-unfoldable pub choiceAnswer : Table → List ℕ → Passing
-choiceAnswer t choice = passingOf (tableRefusal t) (passes (tasksOf t (t .interval) choice))
-
--- `verdict`: the same under the sheet's own
+-- `verdict`: whether the table passes under its own fault priorities
 unfoldable pub verdictAnswer : Table → Passing
-verdictAnswer t = choiceAnswer t (ownChoice (t .records))
+verdictAnswer t = verdictOf (tableRefusal t) (passes (ownTasks t))
+
+-- `judge_choice`: the table's refusal, then 13, "an entry outside 1 to that record's p or a nonzero entry past the count"; all zero is no choice, and refused like any other
+unfoldable pub choiceRefusal : Table → List ℕ → ℕ
+choiceRefusal t choice = orElse (tableRefusal t) (cond (allAllowed (levelsOf t) choice) 0 13)
+
+-- `choice_verdict`: whether the table passes under a choice, which takes the place of its own fault priorities
+unfoldable pub choiceAnswer : Table → List ℕ → Passing
+choiceAnswer t choice = verdictOf (choiceRefusal t choice) (passes (tasksOf t (t .interval) choice))
 
 -- "the smallest E from 1 to 65,535 at which the sheet passes with its own fault priorities"; 0 if there is none
 unfoldable pub leastInterval : Table → ℕ
 leastInterval t = firstFrom (λ interval. passes (tasksOf t interval (ownChoice (t .records)))) 1 65535
 
--- `least_interval`: a refusal's number, the interval, or "none"
-unfoldable pub intervalOf : ℕ → ℕ → Interval
-intervalOf refusal least = cond (eqb refusal 0) (cond (eqb least 0) Nothing (Least least)) (Refused refusal)
+-- a refusal's number, the interval, or "none"
+unfoldable pub leastOf : ℕ → ℕ → Interval
+leastOf refusal least = cond (eqb refusal 0) (cond (eqb least 0) Nothing (Least least)) (Refused refusal)
 
+-- `least_interval`: the least interval of a table that is not refused
 unfoldable pub intervalAnswer : Table → Interval
-intervalAnswer t = intervalOf (tableRefusal t) (leastInterval t)
+intervalAnswer t = leastOf (tableRefusal t) (leastInterval t)

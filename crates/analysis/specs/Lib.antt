@@ -6,5 +6,6 @@ pub mod Backups
 pub mod Equations
 pub mod Search
 pub mod Response
+pub mod Allowed
 pub mod Answers
 pub mod Demand

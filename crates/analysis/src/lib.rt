@@ -1,9 +1,13 @@
 // Response times, the verdict and the least fault interval of a timing table, by the equations of document 01.
 // Every call answers any table: a refused one gets its number, beside zeros, no, or nothing else.
 ghost use mathlib.Core.Path.{_≡_};
-ghost use Rattle.analysis.specs.Answers.{timesAnswer, timedRefusal, timedAnswer, verdictAnswer, choiceAnswer, intervalAnswer};
+ghost use Rattle.analysis.specs.Answers.{timesAnswer, timedRefusal, timedAnswer, verdictOf, verdictAnswer, choiceRefusal, choiceAnswer, intervalAnswer};
+ghost use Rattle.analysis.specs.Response.{passes};
+ghost use Rattle.analysis.specs.Tasks.{tasksOf};
+ghost use Rattle.sheet.specs.Rules.{tableRefusal};
 use sheet::Table;
 
+mod allowed;
 mod response;
 mod search;
 mod workload;
@@ -32,7 +36,7 @@ pub struct Timed {
     pub entry: Entry,
 }
 
-// What `verdict` answers: the refusal, or 0 beside yes or no.
+// What `verdict` and `choice_verdict` answer: the refusal, or 0 beside yes or no.
 pub struct Passing {
     pub refusal: u8,
     pub passes: bool,
@@ -74,7 +78,7 @@ pub fn response_times(table: Table) -> Times
 }
 
 // The refusal of asking a table for the record at a place: the table's own, then 12.
-fn judge_place(table: Table, place: usize) -> u8
+fn judge_record_place(table: Table, place: usize) -> u8
     ensures { λ r. ⌜ r ≡ timedRefusal table place ⌝ }
 {
     let refusal = sheet::judge_table(table);
@@ -88,7 +92,7 @@ fn judge_place(table: Table, place: usize) -> u8
 pub fn response_time(table: Table, place: usize) -> Timed
     ensures { λ r. ⌜ r ≡ timedAnswer table place ⌝ }
 {
-    let refusal = judge_place(table, place);
+    let refusal = judge_record_place(table, place);
     if refusal != 0 {
         return Timed {
             refusal,
@@ -100,19 +104,11 @@ pub fn response_time(table: Table, place: usize) -> Timed
     Timed { refusal: 0, entry }
 }
 
-// Whether no task is late.
-pub fn verdict(table: Table) -> Passing
-    ensures { λ r. ⌜ r ≡ verdictAnswer table ⌝ }
+// The refusal beside yes or no: whether no task is late under a choice, and no where it is refused.
+fn verdict_of(refusal: u8, table: Table, choice: [u8; 8]) -> Passing
+    requires { ⌜ (refusal ≡ 0 → tableRefusal table ≡ 0) ⌝ }
+    ensures { λ r. ⌜ r ≡ verdictOf refusal (passes (tasksOf table (table .interval) choice)) ⌝ }
 {
-    let records = table.records;
-    choice_verdict(table, response::own_choice(records))
-}
-
-// Whether no task is late under a choice of fault priorities, which takes the place of the sheet's own.
-pub fn choice_verdict(table: Table, choice: [u8; 8]) -> Passing
-    ensures { λ r. ⌜ r ≡ choiceAnswer table choice ⌝ }
-{
-    let refusal = sheet::judge_table(table);
     if refusal != 0 {
         return Passing {
             refusal,
@@ -123,6 +119,40 @@ pub fn choice_verdict(table: Table, choice: [u8; 8]) -> Passing
         refusal: 0,
         passes: response::passes(table, table.interval, choice),
     }
+}
+
+// Whether no task is late.
+pub fn verdict(table: Table) -> Passing
+    ensures { λ r. ⌜ r ≡ verdictAnswer table ⌝ }
+{
+    let records = table.records;
+    verdict_of(
+        sheet::judge_table(table),
+        table,
+        response::own_choice(records),
+    )
+}
+
+// The refusal of a choice of fault priorities: the table's own, then 13.
+pub fn judge_choice(table: Table, choice: [u8; 8]) -> u8
+    ensures { λ r. ⌜ r ≡ choiceRefusal table choice ⌝ }
+{
+    let refusal = sheet::judge_table(table);
+    if refusal != 0 {
+        return refusal;
+    }
+    if allowed::all_allowed(table, choice) {
+        0
+    } else {
+        13
+    }
+}
+
+// Whether no task is late under a choice of fault priorities, which takes the place of the sheet's own.
+pub fn choice_verdict(table: Table, choice: [u8; 8]) -> Passing
+    ensures { λ r. ⌜ r ≡ choiceAnswer table choice ⌝ }
+{
+    verdict_of(judge_choice(table, choice), table, choice)
 }
 
 // The smallest fault interval at which the table passes with its own fault priorities.

@@ -121,6 +121,7 @@ fn outcome(time: u16) -> Outcome
     Outcome::OnTime(time)
 }
 
+// The entry of a refused call and of a place past the count.
 pub fn no_entry() -> Entry
     ensures { λ r. ⌜ r ≡ noEntry ⌝ }
 {
@@ -130,6 +131,7 @@ pub fn no_entry() -> Entry
     }
 }
 
+// Eight of them.
 pub fn no_entries() -> [Entry; 8]
     ensures { λ r. ⌜ r ≡ replicate 8 noEntry ⌝ }
 {
@@ -155,10 +157,10 @@ pub fn entry(table: Table, choice: [u8; 8], place: usize) -> Entry
     ensures { λ r. ⌜ r ≡ entryOf (tasksOf table (table .interval) choice) place ⌝ }
 {
     let task = table.records[place];
-    let outcome = outcome(response(table, table.interval, choice, place));
+    let time = response(table, table.interval, choice, place);
     Entry {
         deadline: task.deadline,
-        outcome,
+        outcome: outcome(time),
     }
 }
 
@@ -170,13 +172,13 @@ pub fn entries(table: Table) -> [Entry; 8]
     let count = table.count as usize;
     let records = table.records;
     let choice = own_choice(records);
-    let mut entries = [no_entry(); 8];
+    let mut filled = [no_entry(); 8];
     let mut place: usize = 0;
     while place < count {
-        entries[place] = entry(table, choice, place);
+        filled[place] = entry(table, choice, place);
         place += 1;
     }
-    entries
+    filled
 }
 
 // Whether no record of a good table is late.
@@ -195,14 +197,14 @@ pub fn passes(table: Table, interval: u16, choice: [u8; 8]) -> bool
     true
 }
 
-// The least interval at which a good table passes, or 0.
+// The least interval at which a good table passes, or 0. None passes at 1, so the search begins at 2.
 pub fn least(table: Table) -> u16
     requires { ⌜ tableRefusal table ≡ 0 ⌝ }
     ensures { λ r. ⌜ r ≡ leastInterval table ⌝ }
 {
     let records = table.records;
     let choice = own_choice(records);
-    let mut interval: u16 = 1;
+    let mut interval: u16 = 2;
     loop {
         if passes(table, interval, choice) {
             return interval;

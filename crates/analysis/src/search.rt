@@ -1,4 +1,4 @@
-// The search: each trial is the demand of the trial before, so that it takes as many trials as the demand has rises.
+// The search: each trial is the demand of the trial before, which no smaller length can meet; so it ends at the least length that meets its own, or past the limit.
 ghost use mathlib.Core.Path.{_≡_};
 ghost use Prim.Native.Nat.{_≤_, _<_};
 ghost use mathlib.Core.List.{[]};

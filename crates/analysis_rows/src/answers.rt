@@ -1,145 +1,125 @@
-// What the calls answer, written with what was expected where that differs.
-use crate::report;
+// What is answered in each form of row. A row has the figures: the table, what is asked of it, and what is replaced in it (samples::table).
+use crate::samples;
 use analysis::Entry;
 use analysis::Interval;
 use analysis::Outcome;
 use analysis::Passing;
-use sheet::Record;
 use sheet::Table;
 
-// Stands for the word late: it is above every time.
-pub const LATE: u32 = 65536;
-
-// Stands for the word none: it is above every interval.
-pub const NONE: u32 = 65536;
-
-// Writes a refusal, or nothing for 0, and says whether it is the expected one.
-fn refusal(answer: u8, expected: u8) -> bool {
-    if answer != 0 {
-        report::text(b" refused");
-        report::spaced(answer as u64);
+// Says a refusal, or nothing for 0.
+fn say_refusal(list: &[u8], at: usize, refusal: u8) -> usize {
+    if refusal == 0 {
+        return at;
     }
-    if answer != expected {
-        report::wanted();
-        report::text(b" refusal");
-        report::spaced(expected as u64);
-    }
-    answer == expected
+    let named = rows::say(list, at, b" refused");
+    rows::say_spaced(list, named, refusal as u64)
 }
 
-// An entry's time as a number.
-fn time(entry: Entry) -> u32 {
-    let outcome = entry.outcome;
+// Says a response.
+fn say_outcome(list: &[u8], at: usize, outcome: Outcome) -> usize {
     match outcome {
-        Outcome::OnTime(time) => time as u32,
-        Outcome::Late => LATE,
+        Outcome::OnTime(time) => rows::say_spaced(list, at, time as u64),
+        Outcome::Late => rows::say(list, at, b" late"),
     }
 }
 
-// Writes a time, a stroke and a deadline.
-fn figures(time: u32, deadline: u16) {
-    if time == LATE {
-        report::text(b" late");
-    } else {
-        report::spaced(time as u64);
+// Whether a response is the time 0.
+fn is_nothing(outcome: Outcome) -> bool {
+    match outcome {
+        Outcome::OnTime(time) => time == 0,
+        Outcome::Late => false,
     }
-    report::text(b"/");
-    report::number(deadline as u64);
 }
 
-// Writes an entry, or nothing for time 0 beside deadline 0, and says whether it is the expected one.
-fn entry(answer: Entry, deadline: u16, expected: u32) -> bool {
-    let answered = time(answer);
-    let is_expected = (answered == expected) & (answer.deadline == deadline);
-    if (answered != 0) | (answer.deadline != 0) {
-        figures(answered, answer.deadline);
+// Says an entry, or nothing for time 0 beside deadline 0.
+fn say_entry(list: &[u8], at: usize, entry: Entry) -> usize {
+    let outcome = entry.outcome;
+    if (entry.deadline == 0) & is_nothing(outcome) {
+        return at;
     }
-    if !is_expected {
-        report::wanted();
-        figures(expected, deadline);
-    }
-    is_expected
+    let timed = say_outcome(list, at, outcome);
+    let stroke = rows::say(list, timed, b"/");
+    rows::say_number(list, stroke, entry.deadline as u64)
 }
 
-// How many records have an entry: none where the table is refused.
-fn entered(table: Table, number: u8) -> usize {
-    if number == 0 { table.count as usize } else { 0 }
-}
-
-// The deadline of a record that has an entry, and 0 otherwise.
-fn deadline(task: Record, is_entered: bool) -> u16 {
-    if is_entered { task.deadline } else { 0 }
-}
-
-// Writes eight entries, and says whether they are the deadlines of so many records beside the expected times.
-fn entries(answer: [Entry; 8], records: [Record; 8], count: usize, expected: [u32; 8]) -> bool {
-    let mut is_expected = true;
+// Says eight entries.
+fn say_entries(list: &[u8], at: usize, entries: [Entry; 8]) -> usize {
+    let mut end = at;
     let mut place: usize = 0;
     while place < 8 {
-        let due = deadline(records[place], place < count);
-        is_expected = entry(answer[place], due, expected[place]) & is_expected;
+        end = say_entry(list, end, entries[place]);
         place += 1;
     }
-    is_expected
+    end
 }
 
-// Runs `response_times`, of which a refusal number is expected, and each entry's time: 0 where the table is refused, and past its count.
-pub fn times(table: Table, number: u8, expected: [u32; 8]) -> bool {
+// Says a table's response times.
+fn say_times(list: &[u8], at: usize, table: Table) -> usize {
     let answer = analysis::response_times(table);
-    let answered = answer.entries;
-    let records = table.records;
-    let is_refusal = refusal(answer.refusal, number);
-    entries(answered, records, entered(table, number), expected) & is_refusal
+    let entries = answer.entries;
+    let refused = say_refusal(list, at, answer.refusal);
+    say_entries(list, refused, entries)
 }
 
-// Writes a verdict's word.
-fn word(passes: bool) {
-    if passes {
-        report::text(b" yes");
+// Says a verdict.
+fn say_passing(list: &[u8], at: usize, answer: Passing) -> usize {
+    let word = if answer.passes {
+        rows::say(list, at, b" yes")
     } else {
-        report::text(b" no");
-    }
+        rows::say(list, at, b" no")
+    };
+    say_refusal(list, word, answer.refusal)
 }
 
-// Writes a verdict, and says whether it and its refusal are the expected ones.
-pub fn passing(answer: Passing, number: u8, expected: bool) -> bool {
-    word(answer.passes);
-    if answer.passes != expected {
-        report::wanted();
-        word(expected);
-    }
-    let is_refusal = refusal(answer.refusal, number);
-    (answer.passes == expected) & is_refusal
-}
-
-// Writes a least interval.
-fn least(interval: u32) {
-    if interval == NONE {
-        report::text(b" none");
-    } else {
-        report::spaced(interval as u64);
-    }
-}
-
-// Runs `least_interval`, of which a refusal number is expected, and an interval: 0 where the table is refused.
-pub fn interval(table: Table, number: u8, expected: u32) -> bool {
+// Says a table's least interval.
+fn say_interval(list: &[u8], at: usize, table: Table) -> usize {
     let answer = analysis::least_interval(table);
     match answer {
-        Interval::Refused(refused) => found(refused, 0, number, expected),
-        Interval::Least(interval) => found(0, interval as u32, number, expected),
-        Interval::Nothing => found(0, NONE, number, expected),
+        Interval::Refused(refusal) => say_refusal(list, at, refusal),
+        Interval::Least(interval) => rows::say_spaced(list, at, interval as u64),
+        Interval::Nothing => rows::say(list, at, b" none"),
     }
 }
 
-// Writes the refusal or the least interval, and says whether both are the expected ones.
-fn found(refused: u8, answer: u32, number: u8, expected: u32) -> bool {
-    let is_refusal = refusal(refused, number);
-    if answer != 0 {
-        least(answer);
-    }
-    if answer != expected {
-        report::wanted();
-        least(expected);
-    }
-    (answer == expected) & is_refusal
+// The response times.
+pub fn times(list: &[u8], start: usize, at: usize) -> usize {
+    say_times(list, at, samples::table(list, start))
+}
+
+// The response time at a place, which is asked for.
+pub fn time(list: &[u8], start: usize, at: usize) -> usize {
+    let place = rows::figure(list, start, 2) as usize;
+    let answer = analysis::response_time(samples::table(list, start), place);
+    let refused = say_refusal(list, at, answer.refusal);
+    say_entry(list, refused, answer.entry)
+}
+
+// The verdict.
+pub fn verdict(list: &[u8], start: usize, at: usize) -> usize {
+    let table = samples::table(list, start);
+    say_passing(list, at, analysis::verdict(table))
+}
+
+// The verdict under a choice, which is asked for.
+pub fn verdict_under(list: &[u8], start: usize, at: usize) -> usize {
+    let table = samples::table(list, start);
+    let choice = rows::choice(rows::figure(list, start, 2));
+    say_passing(list, at, analysis::choice_verdict(table, choice))
+}
+
+// The least interval.
+pub fn interval(list: &[u8], start: usize, at: usize) -> usize {
+    say_interval(list, at, samples::table(list, start))
+}
+
+// Every call's answer, that of the verdict under 1 1 1 among them.
+pub fn every(list: &[u8], start: usize, at: usize) -> usize {
+    let table = samples::table(list, start);
+    let at = say_times(list, rows::say(list, at, b", times:"), table);
+    let at = rows::say(list, at, b", verdict:");
+    let at = say_passing(list, at, analysis::verdict(table));
+    let at = rows::say(list, at, b", verdict under 1 1 1:");
+    let choice = rows::choice(11100000);
+    let at = say_passing(list, at, analysis::choice_verdict(table, choice));
+    say_interval(list, rows::say(list, at, b", least interval:"), table)
 }

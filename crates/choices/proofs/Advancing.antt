@@ -3,20 +3,25 @@ use Prim.Native.Nat.{ℕ, _≤_, _<_}
 use mathlib.Core.Path.{_≡_, refl, sym, ap, _∙_, subst}
 use mathlib.Core.Bool.{Bool, true, false, cond, _||_}
 use mathlib.Core.List.{List, [], _∷_}
-use native.Mathlib.Nat.{suc-ne-zero}
+use mathlib.Core.Logic.{_↔_}
+use native.Mathlib.Decide.{ℕ-discrete}
 use native.Mathlib.Omega.{arith}
-use lib.ListN.{length, getD, replicate}
+use lib.ListN.{length, getD}
 use Rattle.sheet.specs.declared.Table.{Table}
+use Rattle.sheet.specs.Places.{orElse}
 use Rattle.sheet.specs.Layout.{recordAt}
 use Rattle.sheet.specs.Rules.{tableRefusal}
-use Rattle.sheet.proofs.Turns.{none-of, length-filled}
+use Rattle.sheet.proofs.Turns.{next-of, first-of}
+use Rattle.sheet.proofs.Order.{table-in-order}
+use Rattle.sheet.proofs.Refused.{passed-if, tests}
 use Rattle.sheet.proofs.Cases.{good-table, good-at}
-use Rattle.sheet.proofs.Agree.{filled-at}
 use Rattle.analysis.specs.Tasks.{tasksOf}
 use Rattle.analysis.specs.Response.{passes}
-use Rattle.analysis.specs.Answers.{choiceAnswer, passingOf as verdictOf}
-use Rattle.choices.specs.Choices.{levelsOf, choicesOf, sift, passingOf}
-use Rattle.choices.specs.Order.{allZero, allAllowed, afterOf}
+use Rattle.analysis.specs.Answers.{verdictOf, choiceRefusal, choiceAnswer}
+use Rattle.analysis.specs.Allowed.{levelsOf, allAllowed}
+use Rattle.analysis.proofs.Choice.{length-levels, level-at}
+use Rattle.choices.specs.Choices.{choicesOf, sift, passingOf}
+use Rattle.choices.specs.Order.{allZero, afterOf}
 use Rattle.choices.specs.Answers.{walkRefusal}
 use Rattle.choices.specs.Stepping.{nextOf}
 use Rattle.choices.proofs.Sifted.{sift-keeps, sift-drops, sift-sift-commute}
@@ -26,24 +31,34 @@ use Rattle.choices.proofs.Onward.{onward, after-next, next-allowed}
 abbrev pub passesWith : Table → List ℕ → Bool
 passesWith t choice = passes (tasksOf t (t .interval) choice)
 
--- what a start that is not refused is known for
-pub good-start : (t : Table) (start : List ℕ) → walkRefusal t start ≡ 0 → (tableRefusal t ≡ 0) × ((allZero start || allAllowed (levelsOf t) start) ≡ true)
-unfolding walkRefusal
-good-start t start e =
-    let both = none-of (tableRefusal t) (cond (allZero start || allAllowed (levelsOf t) start) 0 13) e in
-    (both .0, kept (allZero start || allAllowed (levelsOf t) start) (both .1))
-  where
-    kept : (b : Bool) → _≡_ {A = ℕ} (cond b 0 13) 0 → b ≡ true
-    kept true z = refl
-    kept false z = absurd (suc-ne-zero 12 z)
+-- the start, or an allowed choice
+abbrev pub starts : Table → List ℕ → Bool
+starts t start = allZero start || allAllowed (levelsOf t) start
 
-pub length-levels : (t : Table) → length (levelsOf t) ≡ 8
-unfolding levelsOf
-length-levels t = length-filled _ (t .count) (replicate 8 0)
+-- a start is not refused exactly if the table is good and it is one of these
+pub good-start : (t : Table) (start : List ℕ) → (walkRefusal t start ≡ 0) ↔ ((tableRefusal t ≡ 0) × (starts t start ≡ true))
+unfolding walkRefusal
+good-start t start = passed-if (tableRefusal t) 13 (table-in-order t .range) (omega arith) (tests (starts t start))
+
+-- the start has the table's refusal, any other choice the choice's
+pub zero-refusal : (t : Table) (start : List ℕ) → allZero start ≡ true → tableRefusal t ≡ walkRefusal t start
+unfolding walkRefusal
+zero-refusal t start zeros = sym (simp zeros (else-none (tableRefusal t)))
+  where
+    else-none : (refusal : ℕ) → orElse refusal 0 ≡ refusal
+    else-none refusal = go (ℕ-discrete refusal 0)
+      where
+        go : Dec (refusal ≡ 0) → orElse refusal 0 ≡ refusal
+        go (yes z) = next-of 0 z ∙ sym z
+        go (no z) = first-of refusal 0 z
+
+pub choice-refusal : (t : Table) (start : List ℕ) → allZero start ≡ false → choiceRefusal t start ≡ walkRefusal t start
+unfolding walkRefusal choiceRefusal
+choice-refusal t start some = sym (simp some)
 
 -- the choice right after is allowed too
-pub still-allowed : (t : Table) (choice : List ℕ) → (allZero choice || allAllowed (levelsOf t) choice) ≡ true
-    → (allZero (nextOf (levelsOf t) choice .choice) || allAllowed (levelsOf t) (nextOf (levelsOf t) choice .choice)) ≡ true
+pub still-allowed : (t : Table) (choice : List ℕ) → starts t choice ≡ true
+    → starts t (nextOf (levelsOf t) choice .choice) ≡ true
 still-allowed t choice start = either (allZero (nextOf (levelsOf t) choice .choice)) (next-allowed (levelsOf t) choice start)
   where
     either : (a : Bool) {b : Bool} → b ≡ true → (a || b) ≡ true
@@ -53,14 +68,12 @@ still-allowed t choice start = either (allZero (nextOf (levelsOf t) choice .choi
 module _ (t : Table) (good : tableRefusal t ≡ 0) where
   -- a good table has a first record, with a priority of 1 at least
   pub first-level : 1 ≤ getD (levelsOf t) 0 0
-  unfolding levelsOf
   first-level =
       let known = good-table t good in
       let some : 0 < t .count = omega (arith, known .count .0) in
-      subst (λ (n : ℕ). 1 ≤ n) (sym (filled-at (λ place. recordAt (t .records) place .priority) (t .count) (replicate 8 0) 0 (known .count .1) 0 some))
-      (good-at (t .count) (recordAt (t .records)) (known .records) 0 some .priority .0)
+      subst (λ (n : ℕ). 1 ≤ n) (sym (level-at t (known .count .1) 0 some)) (good-at (t .count) (recordAt (t .records)) (known .records) 0 some .priority .0)
 
-  module _ (choice : List ℕ) (eight : length choice ≡ 8) (start : (allZero choice || allAllowed (levelsOf t) choice) ≡ true) where
+  module _ (choice : List ℕ) (eight : length choice ≡ 8) (start : starts t choice ≡ true) where
     -- what comes after a choice is the next one, and what comes after that
     stepped : afterOf choice (choicesOf (levelsOf t)) ≡ onward (levelsOf t) (nextOf (levelsOf t) choice)
     stepped = after-next (levelsOf t) choice first-level (eight ∙ sym (length-levels t)) start
@@ -96,7 +109,7 @@ module _ (t : Table) (good : tableRefusal t ≡ 0) where
           sift-sift-commute choice (passesWith t) (choicesOf (levelsOf t)) ∙ ap (sift (passesWith t)) onto ∙ sift-drops (passesWith t) later _ not-it
           ∙ sym (sift-sift-commute later (passesWith t) (choicesOf (levelsOf t)))
 
-  -- the verdict on a good table under a choice
-  pub verdict-passes : (choice : List ℕ) → choiceAnswer t choice .passes ≡ passesWith t choice
-  unfolding choiceAnswer verdictOf
-  verdict-passes choice = simp good
+  -- the verdict on a good table under an allowed choice
+  pub verdict-passes : (choice : List ℕ) → allAllowed (levelsOf t) choice ≡ true → choiceAnswer t choice .passes ≡ passesWith t choice
+  unfolding choiceAnswer verdictOf choiceRefusal
+  verdict-passes choice allowed = simp (good, allowed, next-of 0 refl)

@@ -10,9 +10,9 @@ use native.Mathlib.Omega.{arith}
 use borrow.Author.Tests.{eq-eqb, ne-eqb, lt-ltb, le-ltb}
 use lib.Dec.{eqb, ltb}
 use lib.ListN.{length, getD, set, replicate, length-append, length-map, getD-replicate}
-use lib.Seq.{getD-set-other}
 use Rattle.sheet.specs.Places.{someBelow, filledBelow}
 use Rattle.sheet.proofs.Turns.{length-filled}
+use Rattle.analysis.proofs.Choice.{filled-past}
 use Rattle.choices.specs.Choices.{inRow, entriesFor, spread, choicesOf}
 
 -- n!
@@ -129,12 +129,6 @@ unfolding choicesOf entriesFor
 set-count [] k p h e = absurd (not-suc-le-zero h)
 set-count (a ∷ ps) zero p h e = simp (e, spread-length, one-mul)
 set-count (a ∷ ps) (suc k) p h e = simp (spread-length, set-count ps k p (omega arith) e) (mul-left-comm _ _ _)
-
--- a list filled below n is as it was from n on
-filled-past : {A : Type 0} (f : ℕ → A) (n : ℕ) (room : List A) (d : A) (k : ℕ) → n ≤ k → getD (filledBelow f n room) k d ≡ getD room k d
-unfolding filledBelow
-filled-past f zero room d k h = refl
-filled-past f (suc n) room d k h = getD-set-other (filledBelow f n room) n k (f n) d (λ e. omega arith) ∙ filled-past f n room d k (omega arith)
 
 -- eight places of which the first n have a priority have as many choices as the product of the n priorities
 filled-count : (f : ℕ → ℕ) (n : ℕ) → n ≤ 8 → ((k : ℕ) → k < n → 1 ≤ f k) → length (choicesOf (filledBelow f n (replicate 8 0))) ≡ grown _*_ 1 f n

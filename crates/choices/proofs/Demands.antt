@@ -1,42 +1,100 @@
 -- The demands on the walk and the list in the request's words, about the definitions.
--- Assumes nothing.
+-- What stands beside a refusal is in Refused.antt. Assumes nothing.
 use Prim.Native.Nat.{ℕ, zero, suc, _+_, _-_, _*_, _≤_, _<_}
 use mathlib.Core.Path.{_≡_, refl, sym, ap, _∙_, subst}
-use mathlib.Core.Bool.{Bool, true, false, true≢false}
+use mathlib.Core.Bool.{Bool, true, false, _||_, or-true, true≢false}
 use mathlib.Core.List.{List, [], _∷_, List·Memᴰ as In, List·Memᴰ·head as here, List·Memᴰ·cases-cons as cases-cons, List·Memᴰ·not-nil as not-nil}
 use mathlib.Core.Logic.{_↔_, _⊎_, inl, inr, ⊎-elim}
 use native.Mathlib.Omega.{arith}
+use borrow.Author.Tests.{eq-eqb, eqb-true}
+use lib.Dec.{eqb}
 use lib.ListN.{length, getD, take, drop}
 use lib.Seq.{drop-cons, drop-length}
 use Rattle.sheet.specs.declared.Table.{Table}
 use Rattle.sheet.specs.Layout.{recordAt}
 use Rattle.sheet.specs.Rules.{taken, tableRefusal}
+use Rattle.sheet.proofs.Order.{table-in-order}
 use Rattle.sheet.proofs.Cases.{good-table, good-at}
+use Rattle.sheet.proofs.Refused.{given-unless, tests}
+use Rattle.analysis.specs.Allowed.{levelsOf, allAllowed}
+use Rattle.analysis.proofs.Choice.{Allowed, and-true, both-true, allowed-exactly}
 use Rattle.choices.specs.declared.Walk.{Walk}
 use Rattle.choices.specs.declared.Arrival.the-variants.{Passing, End}
 use Rattle.choices.specs.declared.Stepped.{Stepped}
-use Rattle.choices.specs.Choices.{levelsOf, choicesOf, passingOf}
-use Rattle.choices.specs.Order.{before, allAllowed, afterOf}
+use Rattle.choices.specs.Choices.{choicesOf, passingOf}
+use Rattle.choices.specs.Order.{before, allZero, afterOf}
 use Rattle.choices.specs.Answers.{startWalk, walkRefusal, arriveAt, stepAnswer, entryBytes, listRefusal, listLeaves}
 use Rattle.choices.proofs.Sifted.{sift-none, sift-fewer}
 use Rattle.choices.proofs.Members.{sift-members, choices-sound, choices-complete}
-use Rattle.choices.proofs.Advancing.{passesWith, good-start}
+use Rattle.choices.proofs.Advancing.{passesWith, starts, good-start}
 use Rattle.choices.proofs.Counted.{factorial, factorial-rises, filled-factorial}
-use Rattle.choices.proofs.Ordered.{before-irreflexive, ascending-places}
-use Rattle.choices.proofs.Listed.{from-start, passing-ascending, start-allowed, next-listed}
+use Rattle.choices.proofs.Ordered.{before-irreflexive, before-asymmetric, ascending-places}
+use Rattle.choices.proofs.Listed.{from-start, passing-ascending, passing-eight, start-allowed, next-listed}
 use Rattle.choices.proofs.Entries.{entry-at}
 
+-- "eight zero entries"
+abbrev pub Zero : List ℕ → Type 0
+Zero start = (place : ℕ) → getD start place 0 ≡ 0
+
+-- the definition's test says just that
+zero-entries : (start : List ℕ) → allZero start ≡ true → Zero start
+unfolding allZero
+zero-entries [] e place = refl
+zero-entries (q ∷ qs) e zero = eqb-true q 0 (both-true (eqb q 0) (allZero qs) e .0)
+zero-entries (q ∷ qs) e (suc place) = zero-entries qs (both-true (eqb q 0) (allZero qs) e .1) place
+
+entries-zero : (start : List ℕ) → Zero start → allZero start ≡ true
+unfolding allZero
+entries-zero [] each = refl
+entries-zero (q ∷ qs) each = and-true _ _ (eq-eqb q 0 (each 0)) (entries-zero qs (λ place. each (suc place)))
+
+-- "it may start before the first choice, shown by eight zero entries, or after any allowed one"
+abbrev pub MayStart : Table → List ℕ → Type 0
+MayStart t start = Zero start ⊎ Allowed t start
+
+module _ (t : Table) (good : tableRefusal t ≡ 0) (start : List ℕ) (eight : length start ≡ 8) where
+  -- the definition's test says just that
+  starts-exactly : (starts t start ≡ true) ↔ MayStart t start
+  starts-exactly = (
+    λ e. go (allZero start) refl e,
+    ⊎-elim (λ z. simp (entries-zero start z)) (λ w. rw (allowed-exactly t good start eight .1 w) (or-true (allZero start))),
+  )
+    where
+      go : (b : Bool) → allZero start ≡ b → (b || allAllowed (levelsOf t) start) ≡ true → MayStart t start
+      go true e said = inl (zero-entries start e)
+      go false e said = inr (allowed-exactly t good start eight .0 said)
+
+  -- for a good table a start is not refused exactly if it is one of these
+  pub start-exactly : (walkRefusal t start ≡ 0) ↔ MayStart t start
+  start-exactly =
+      let known = good-start t start in
+      (λ e. starts-exactly .0 (known .0 e .1), λ may. known .1 (good, starts-exactly .1 may))
+
+  -- and 13 is given exactly if it "is not all zero, and has an entry outside 1 to that record's p or a nonzero entry past the count"
+  pub start-13 : (walkRefusal t start ≡ 13) ↔ ((Zero start → ⊥) × (Allowed t start → ⊥))
+  unfolding walkRefusal
+  start-13 =
+      let last = given-unless (tableRefusal t) 13 (table-in-order t .range) (omega arith) (tests (starts t start)) in (
+        λ e. (λ z. last .0 e .1 (starts-exactly .1 (inl z)), λ w. last .0 e .1 (starts-exactly .1 (inr w))),
+        λ neither. last .1 (good, λ e. ⊎-elim (neither .0) (neither .1) (starts-exactly .0 e)),
+      )
+
 -- "each listed choice is allowed and passes; each allowed choice that passes is listed"
-pub listed-exactly : (t : Table) (c : List ℕ) → In c (passingOf t) ↔ ((allAllowed (levelsOf t) c ≡ true) × (passesWith t c ≡ true))
+pub listed-exactly : (t : Table) → tableRefusal t ≡ 0 → (c : List ℕ) → In c (passingOf t) ↔ ((length c ≡ 8) × Allowed t c × (passesWith t c ≡ true))
 unfolding passingOf
-listed-exactly t c =
-    let member = sift-members (passesWith t) (choicesOf (levelsOf t)) in
-    (λ m. (choices-sound (levelsOf t) (member .0 m .0), member .0 m .1), λ h. member .1 (choices-complete (levelsOf t) c (h .0), h .1))
+listed-exactly t good c =
+    let member = sift-members (passesWith t) (choicesOf (levelsOf t)) in (
+      λ m.
+          let eight = passing-eight t good m .0 in
+          (eight, allowed-exactly t good c eight .0 (choices-sound (levelsOf t) (member .0 m .0)), member .0 m .1),
+      λ h. member .1 (choices-complete (levelsOf t) c (allowed-exactly t good c (h .0) .1 (h .1)), h .2),
+    )
 
 -- "strictly ascending, so each stands once"
 pub listed-ascending : (t : Table) (j k : ℕ) → j < k → k < length (passingOf t) → before (getD (passingOf t) j []) (getD (passingOf t) k []) ≡ true
 listed-ascending t = ascending-places (passing-ascending t)
 
+-- so no two places have the same
 pub listed-once : (t : Table) (j k : ℕ) → j < k → k < length (passingOf t) → getD (passingOf t) j [] ≡ getD (passingOf t) k [] → ⊥
 listed-once t j k h below same =
     true≢false (sym (listed-ascending t j k h below) ∙ ap (before (getD (passingOf t) j [])) (sym same) ∙ before-irreflexive (getD (passingOf t) j []))
@@ -64,16 +122,28 @@ pub record FirstAfter (t : Table) (start c : List ℕ) : Type 0 where
   pub comes-after : before start c ≡ true
   pub others-later : (d : List ℕ) → In d (passingOf t) → before start d ≡ true → (d ≡ c) ⊎ (before c d ≡ true)
 
--- the two answers of a step that is not refused
-module _ (t : Table) (w : Walk) (good : walkRefusal t (w .entries) ≡ 0) where
-  step-is : stepAnswer t w ≡ arriveAt w (afterOf (w .entries) (passingOf t))
-  unfolding stepAnswer
-  step-is = simp good
+-- there is only one
+one-first : (t : Table) (start c d : List ℕ) → FirstAfter t start c → FirstAfter t start d → c ≡ d
+one-first t start c d first other =
+    ⊎-elim sym
+    (λ after. ⊎-elim (λ e. e) (λ back. absurd (true≢false (sym back ∙ before-asymmetric c d after))) (other .others-later c (first .is-listed) (first .comes-after)))
+    (first .others-later d (other .is-listed) (other .comes-after))
 
-  -- "the step after any allowed choice gives the first listed one after it, and says end exactly if none is left"
+-- a step that is not refused goes to the first of the choices after the walk
+step-is : (t : Table) (w : Walk) → walkRefusal t (w .entries) ≡ 0 → stepAnswer t w ≡ arriveAt w (afterOf (w .entries) (passingOf t))
+unfolding stepAnswer
+step-is t w good = simp good
+
+-- the two answers of a step of a good table, from the start or from any allowed choice
+module _ (t : Table) (good : tableRefusal t ≡ 0) (w : Walk) (eight : length (w .entries) ≡ 8) (may : MayStart t (w .entries)) where
+  -- it is not refused
+  stepped : stepAnswer t w ≡ arriveAt w (afterOf (w .entries) (passingOf t))
+  stepped = step-is t w (start-exactly t good (w .entries) eight .1 may)
+
+  -- "the step after any allowed choice gives the first listed one after it, and says end exactly if none is left": what it gives is the first
   pub step-first : (c : List ℕ) → stepAnswer t w ≡ record { walk = record { entries = c }; arrival = Passing } → FirstAfter t (w .entries) c
   unfolding arriveAt afterOf
-  step-first c e = go (afterOf (w .entries) (passingOf t)) refl (sym step-is ∙ e)
+  step-first c e = go (afterOf (w .entries) (passingOf t)) refl (sym stepped ∙ e)
     where
       go : (l : List (List ℕ)) → afterOf (w .entries) (passingOf t) ≡ l → arriveAt w l ≡ record { walk = record { entries = c }; arrival = Passing } → FirstAfter t (w .entries) c
       go [] same said = absurd (let stop = ap (λ (r : Stepped). r .arrival) said in let z : _≡_ {A = ℕ} 0 1 = cc in omega arith)
@@ -81,18 +151,30 @@ module _ (t : Table) (w : Walk) (good : walkRefusal t (w .entries) ≡ 0) where
           let found : afterOf (w .entries) (passingOf t) ≡ c ∷ rest = same ∙ ap (λ (x : List ℕ). x ∷ rest) (ap (λ (r : Stepped). r .walk .entries) said) in
           let member = sift-members (before (w .entries)) (passingOf t) in
           let first = member .0 (subst (In c) (sym found) (here refl)) in
-          let next = next-listed t (good-start t (w .entries) good .0) (w .entries) c rest found in
+          let next = next-listed t good (w .entries) c rest found in
           record {
             is-listed = first .0;
             comes-after = first .1;
             others-later = λ x m after. ⊎-elim inl (λ later. inr (sift-members (before c) (passingOf t) .0 (subst (In x) (sym (next .after)) later) .1)) (cases-cons (subst (In x) found (sift-members (before (w .entries)) (passingOf t) .1 (m, after))));
           }
 
+  -- and where there is one, the step gives it
+  pub step-gives : (c : List ℕ) → FirstAfter t (w .entries) c → stepAnswer t w ≡ record { walk = record { entries = c }; arrival = Passing }
+  unfolding arriveAt afterOf
+  step-gives c first = go (afterOf (w .entries) (passingOf t)) refl
+    where
+      go : (l : List (List ℕ)) → afterOf (w .entries) (passingOf t) ≡ l → stepAnswer t w ≡ record { walk = record { entries = c }; arrival = Passing }
+      go [] same = absurd (not-nil (subst (In c) same (sift-members (before (w .entries)) (passingOf t) .1 (first .is-listed, first .comes-after))))
+      go (d ∷ rest) same =
+          let gave = stepped ∙ ap (arriveAt w) same in
+          gave ∙ ap (λ (x : List ℕ). record { walk = record { entries = x }; arrival = Passing }) (one-first t (w .entries) d c (step-first d gave) first)
+
+  -- it says end exactly if none is left
   pub step-end : (stepAnswer t w ≡ record { walk = w; arrival = End }) ↔ ((c : List ℕ) → In c (passingOf t) → before (w .entries) c ≡ false)
   unfolding arriveAt afterOf
   step-end = (
-    λ e. none-later (afterOf (w .entries) (passingOf t)) refl (sym step-is ∙ e),
-    λ none. step-is ∙ ap (arriveAt w) (sift-none (before (w .entries)) (passingOf t) none),
+    λ e. none-later (afterOf (w .entries) (passingOf t)) refl (sym stepped ∙ e),
+    λ none. stepped ∙ ap (arriveAt w) (sift-none (before (w .entries)) (passingOf t) none),
   )
     where
       none-later : (l : List (List ℕ)) → afterOf (w .entries) (passingOf t) ≡ l → arriveAt w l ≡ record { walk = w; arrival = End } → (c : List ℕ) → In c (passingOf t) → before (w .entries) c ≡ false
@@ -125,11 +207,13 @@ module _ (t : Table) (good : tableRefusal t ≡ 0) where
       let here-now = ap (λ (r : Stepped). r .walk .entries) (came k (at .0) h found) in
       subst (λ (c : List ℕ). (walkRefusal t c ≡ 0) × (afterOf c (passingOf t) ≡ drop (suc k) (passingOf t))) (sym here-now) (next .going-on, next .after)
 
+  -- each step but the last comes to the choice at its place
   pub walk-visits : (k : ℕ) → k < length (passingOf t) → stepAnswer t (walkAfter t k) ≡ record { walk = record { entries = getD (passingOf t) k [] }; arrival = Passing }
   walk-visits k h =
       let at = stands k (omega arith) in
       came k (at .0) h (at .1 ∙ drop-cons (passingOf t) k [] h)
 
+  -- and the last says end
   pub walk-ends : stepAnswer t (walkAfter t (length (passingOf t))) ≡ record { walk = walkAfter t (length (passingOf t)); arrival = End }
   unfolding arriveAt
   walk-ends =

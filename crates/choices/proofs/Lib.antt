@@ -13,3 +13,4 @@ pub mod Listed
 pub mod Rows
 pub mod Unique
 pub mod Demands
+pub mod Refused

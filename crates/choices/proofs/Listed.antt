@@ -1,5 +1,5 @@
 -- Going through the list of passing choices one by one: what comes after each, and that each can be gone on from. Assumes nothing.
-use Prim.Native.Nat.{ℕ, zero, suc, _+_, _*_, _≤_, _<_, zero-le}
+use Prim.Native.Nat.{ℕ, zero, suc, _+_, _*_, _≤_, _<_}
 use mathlib.Core.Path.{_≡_, refl, sym, ap, _∙_, subst}
 use mathlib.Core.Bool.{Bool, true, false, cond, _||_, true≢false}
 use mathlib.Core.List.{List, [], _∷_, List·Memᴰ as In, List·Memᴰ·head as here}
@@ -14,17 +14,19 @@ use Rattle.sheet.specs.Layout.{recordAt}
 use Rattle.sheet.specs.Rules.{tableRefusal}
 use Rattle.sheet.proofs.Turns.{first-of, next-of}
 use Rattle.sheet.proofs.Cases.{good-table, good-at}
-use Rattle.choices.specs.Choices.{levelsOf, choicesOf, sift, passingOf}
-use Rattle.choices.specs.Order.{before, isAllowed, allAllowed, allZero, afterOf}
+use Rattle.analysis.specs.Allowed.{levelsOf, allAllowed}
+use Rattle.analysis.proofs.Choice.{entry-allowed, allowed-length, zero-at-all, length-levels}
+use Rattle.choices.specs.Choices.{choicesOf, sift, passingOf}
+use Rattle.choices.specs.Order.{before, allZero, afterOf}
 use Rattle.choices.specs.Answers.{walkRefusal, listRefusal}
 use Rattle.choices.specs.declared.Found.{Found}
 use Rattle.choices.specs.Stepping.{small, foundIn}
 use Rattle.choices.proofs.Sifted.{sift-drops, sift-all}
-use Rattle.choices.proofs.Allowed.{both-true, allowed-within, allowed-length}
+use Rattle.choices.proofs.Allowed.{allowed-within}
 use Rattle.choices.proofs.Onward.{zero-before-sift}
 use Rattle.choices.proofs.Members.{sift-members, choices-sound}
 use Rattle.choices.proofs.Ordered.{before-irreflexive, before-asymmetric, before-transitive, Ascending, none, more, sift-ascending, choices-ascending}
-use Rattle.choices.proofs.Advancing.{passesWith, length-levels, first-level}
+use Rattle.choices.proofs.Advancing.{passesWith, first-level}
 
 -- in an ascending list, what comes after the first one found after a start is what was found after it
 pub after-first : (w c : List ℕ) (rest : List (List ℕ)) {l : List (List ℕ)} → Ascending l → afterOf w l ≡ c ∷ rest → afterOf c l ≡ rest
@@ -53,12 +55,7 @@ passing-allowed t m = choices-sound (levelsOf t) (sift-members (passesWith t) (c
 
 -- no entry of an allowed choice is above its level
 entry-within : (ps c : List ℕ) → allAllowed ps c ≡ true → (k : ℕ) → getD c k 0 ≤ getD ps k 0
-unfolding allAllowed
-entry-within [] [] e k = omega arith
-entry-within [] (q ∷ qs) e k = absurd (true≢false (sym e))
-entry-within (p ∷ ps) [] e k = absurd (true≢false (sym e))
-entry-within (p ∷ ps) (q ∷ qs) e zero = allowed-within p q (both-true (isAllowed p q) (allAllowed ps qs) e .0) .1
-entry-within (p ∷ ps) (q ∷ qs) e (suc k) = entry-within ps qs (both-true (isAllowed p q) (allAllowed ps qs) e .1) k
+entry-within ps c e k = allowed-within (getD ps k 0) (getD c k 0) (entry-allowed ps c e k) .1
 
 -- a store of what is within a bound leaves a list within it
 set-within : (m : ℕ) (l : List ℕ) (i v : ℕ) → v ≤ m → ((k : ℕ) → getD l k 0 ≤ m) → (k : ℕ) → getD (set l i v) k 0 ≤ m
@@ -73,18 +70,20 @@ unfolding filledBelow
 filled-within m f room empty zero each = empty
 filled-within m f room empty (suc n) each = set-within m (filledBelow f n room) n (f n) (each n (omega arith)) (filled-within m f room empty n (λ k h. each k (omega arith)))
 
-zeros-within : (m n k : ℕ) → getD (replicate n 0) k 0 ≤ m
-zeros-within m zero k = zero-le
-zeros-within m (suc n) zero = zero-le
-zeros-within m (suc n) (suc k) = zeros-within m n k
-
 module _ (t : Table) (good : tableRefusal t ≡ 0) where
   level-within : (k : ℕ) → getD (levelsOf t) k 0 ≤ 8
   unfolding levelsOf
   level-within =
       let known = good-table t good in
-      filled-within 8 (λ place. recordAt (t .records) place .priority) (replicate 8 0) (zeros-within 8 8) (t .count)
+      filled-within 8 (λ place. recordAt (t .records) place .priority) (replicate 8 0) (λ k. omega (arith, zero-at-all 8 k)) (t .count)
       (λ k h. omega (arith, good-at (t .count) (recordAt (t .records)) (known .records) k h .priority .1, known .count .1))
+
+  -- a passing choice has eight entries, each with room in four bits
+  pub passing-eight : {c : List ℕ} → In c (passingOf t) → (length c ≡ 8) × small c
+  unfolding small
+  passing-eight {c} member =
+      let allowed = passing-allowed t member in
+      (allowed-length (levelsOf t) c allowed ∙ length-levels t, λ k. omega (arith, entry-within (levelsOf t) c allowed k, level-within k))
 
   -- before the first choice stands every passing one
   pub from-start : afterOf (replicate 8 0) (passingOf t) ≡ passingOf t
@@ -99,19 +98,17 @@ module _ (t : Table) (good : tableRefusal t ≡ 0) where
   pub record Next (c : List ℕ) (rest : List (List ℕ)) : Type 0 where
     pub going-on : walkRefusal t c ≡ 0
     pub after : afterOf c (passingOf t) ≡ rest
-    pub eight : length c ≡ 8
     pub narrow : small c
 
   pub next-listed : (w c : List ℕ) (rest : List (List ℕ)) → afterOf w (passingOf t) ≡ c ∷ rest → Next c rest
-  unfolding walkRefusal small afterOf
+  unfolding walkRefusal afterOf
   next-listed w c rest e =
       let member : In c (passingOf t) = sift-members (before w) (passingOf t) .0 (subst (In c) (sym e) (here refl)) .0 in
       let allowed = passing-allowed t member in
       record {
         going-on = next-of _ good ∙ ap (λ (b : Bool). cond b 0 13) (ap (λ (b : Bool). allZero c || b) allowed ∙ or-true (allZero c));
         after = after-first w c rest (passing-ascending t) e;
-        eight = allowed-length (levelsOf t) c allowed ∙ length-levels t;
-        narrow = λ k. omega (arith, entry-within (levelsOf t) c allowed k, level-within k);
+        narrow = passing-eight member .1;
       }
     where
       or-true : (b : Bool) → (b || true) ≡ true

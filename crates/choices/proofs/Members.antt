@@ -6,10 +6,11 @@ use mathlib.Core.List.{List, [], _∷_, _++_, map, List·Memᴰ as In, List·Mem
 use mathlib.Core.Logic.{_↔_, _⊎_, inl, inr}
 use native.Mathlib.Nat.{eq-or-lt-of-le}
 use native.Mathlib.Omega.{arith}
+use Rattle.analysis.specs.Allowed.{isAllowed, allAllowed}
+use Rattle.analysis.proofs.Choice.{and-true, both-true}
 use Rattle.choices.specs.Choices.{inRow, entriesFor, spread, choicesOf, sift}
-use Rattle.choices.specs.Order.{isAllowed, allAllowed}
 use Rattle.choices.specs.Stepping.{firstFor}
-use Rattle.choices.proofs.Allowed.{and-true, both-true, allowed-within, within-allowed, first-entry, entries-first}
+use Rattle.choices.proofs.Allowed.{allowed-within, within-allowed, first-entry, entries-first}
 
 module _ {A : Type 0} (test : A → Bool) {a : A} where
   -- a sift's member is the list's and passes

@@ -10,12 +10,14 @@ use native.Mathlib.Omega.{arith}
 use borrow.Author.Tests.{lt-ltb, le-ltb, ltb-true, ltb-false, eq-eqb, ne-eqb, eqb-true}
 use lib.Dec.{eqb, ltb}
 use lib.ListN.{length, getD}
+use Rattle.analysis.specs.Allowed.{isAllowed, allAllowed}
+use Rattle.analysis.proofs.Choice.{and-true, both-true, allowed-length}
 use Rattle.choices.specs.declared.Found.{Found}
 use Rattle.choices.specs.Choices.{inRow, entriesFor, spread, choicesOf, sift}
-use Rattle.choices.specs.Order.{before, isAllowed, allAllowed, allZero, afterOf}
+use Rattle.choices.specs.Order.{before, allZero, afterOf}
 use Rattle.choices.specs.Stepping.{firstFor, Carried, carried, nextOf}
 use Rattle.choices.proofs.Sifted.{sift-all, sift-none, sift-join, sift-map, sift-sift-commute}
-use Rattle.choices.proofs.Allowed.{and-true, both-true, allowed-within, within-allowed, first-entry, entries-first, first-allowed, allowed-length}
+use Rattle.choices.proofs.Allowed.{allowed-within, within-allowed, first-entry, entries-first, first-allowed}
 
 -- each of the rests after an entry
 abbrev under : ℕ → List (List ℕ) → List (List ℕ)

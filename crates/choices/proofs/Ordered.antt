@@ -1,20 +1,17 @@
--- The choices ascend, so that each stands once, and what comes after one of them in an ascending list is what stands after it.
--- Assumes nothing.
+-- The choices ascend, so that each stands once. Assumes nothing.
 use Prim.Native.Nat.{ℕ, zero, suc, _<_}
-use mathlib.Core.Path.{_≡_, refl, sym, ap, _∙_, subst}
+use mathlib.Core.Path.{_≡_, refl, sym, ap, _∙_}
 use mathlib.Core.Bool.{Bool, true, false, cond, _&&_, _||_, false≢true}
-use mathlib.Core.List.{List, [], _∷_, _++_, map, List·Memᴰ as In, List·Memᴰ·head as here, List·Memᴰ·tail as there, List·Memᴰ·append-cases, List·Memᴰ·not-nil as not-nil, Memᴰ·append-right, Memᴰ·of-map}
+use mathlib.Core.List.{List, [], _∷_, _++_, map, List·Memᴰ as In, List·Memᴰ·head as here, List·Memᴰ·tail as there, List·Memᴰ·append-cases, List·Memᴰ·not-nil as not-nil, Memᴰ·of-map}
 use mathlib.Core.Logic.{_⊎_, inl, inr, ⊎-elim}
 use native.Mathlib.Nat.{le-refl, le-of-suc-le-suc, not-suc-le-zero}
 use native.Mathlib.Omega.{arith}
 use borrow.Author.Tests.{lt-ltb, le-ltb, ltb-true, eq-eqb, ne-eqb, eqb-true}
 use lib.Dec.{eqb, ltb}
-use lib.ListN.{length, getD, take, drop}
-use lib.Seq.{split-at}
+use lib.ListN.{length, getD}
+use Rattle.analysis.proofs.Choice.{both-true}
 use Rattle.choices.specs.Choices.{inRow, entriesFor, spread, choicesOf, sift}
-use Rattle.choices.specs.Order.{before, afterOf}
-use Rattle.choices.proofs.Sifted.{sift-drops, sift-all}
-use Rattle.choices.proofs.Allowed.{both-true}
+use Rattle.choices.specs.Order.{before}
 use Rattle.choices.proofs.Members.{sift-members, row-member, spread-member}
 
 -- a smaller entry decides
@@ -73,7 +70,7 @@ pub data Ascending : List (List ℕ) → Type 0 where
   more : {c : List ℕ} {l : List (List ℕ)} → ((d : List ℕ) → In d l → before c d ≡ true) → Ascending l → Ascending (c ∷ l)
 
 -- what stands at a place is a member
-in-at : (l : List (List ℕ)) (k : ℕ) → k < length l → In (getD l k []) l
+pub in-at : (l : List (List ℕ)) (k : ℕ) → k < length l → In (getD l k []) l
 in-at [] k h = absurd (not-suc-le-zero h)
 in-at (c ∷ l) zero h = here refl
 in-at (c ∷ l) (suc k) h = there (in-at l k (le-of-suc-le-suc h))
@@ -126,16 +123,3 @@ unfolding choicesOf entriesFor inRow
 choices-ascending [] = more (λ d m. absurd (not-nil m)) none
 choices-ascending (zero ∷ ps) = rows-ascending 0 1 (choices-ascending ps)
 choices-ascending (suc p ∷ ps) = rows-ascending 1 (suc p) (choices-ascending ps)
-
--- in an ascending list, what comes after a member is what stands after it
-pub after-drop : (xs : List (List ℕ)) (c : List ℕ) (ys : List (List ℕ)) → Ascending (xs ++ c ∷ ys) → afterOf c (xs ++ c ∷ ys) ≡ ys
-unfolding afterOf
-after-drop [] c ys (more first later) = sift-drops (before c) c ys (before-irreflexive c) ∙ sift-all (before c) ys first
-after-drop (x ∷ xs) c ys (more first later) =
-    sift-drops (before c) x (xs ++ c ∷ ys) (before-asymmetric x c (first c (Memᴰ·append-right xs (here refl)))) ∙ after-drop xs c ys later
-
--- the same by place
-pub after-at : (l : List (List ℕ)) (k : ℕ) → Ascending l → k < length l → afterOf (getD l k []) l ≡ drop (suc k) l
-after-at l k rising below =
-    let cut : l ≡ take k l ++ getD l k [] ∷ drop (suc k) l = split-at l k [] below in
-    ap (afterOf (getD l k [])) cut ∙ after-drop (take k l) (getD l k []) (drop (suc k) l) (subst Ascending cut rising)

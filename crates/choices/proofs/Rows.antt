@@ -13,7 +13,8 @@ use Rattle.analysis.specs.Equations.{struckElsewhere, stageOne, stageTwo}
 use Rattle.analysis.specs.Search.{firstFrom, leastWithin}
 use Rattle.analysis.specs.Response.{timeElsewhere, lengthOne, timeItself, responseTime, passes}
 use Rattle.analysis.specs.Answers.{ownTasks}
-use Rattle.choices.specs.Choices.{levelsOf, inRow, entriesFor, spread, choicesOf, sift, passingOf}
+use Rattle.analysis.specs.Allowed.{levelsOf}
+use Rattle.choices.specs.Choices.{inRow, entriesFor, spread, choicesOf, sift, passingOf}
 use Rattle.choices.specs.Order.{before, afterOf}
 
 -- Sheet A with an interval, and with the last byte of each record, which holds priority and fault priority
@@ -63,6 +64,11 @@ rows =
     after (sheetA 9 0x33 0x22 0x11) (choice 1 1 1) (choice 1 2 1 ∷ []) ∷
     []
 
+-- each of them holds
 pub rows-hold : All rows
-unfolding rows times choice sheetA lone headerOf countOf intervalOf partOf recordFrom recordOf sheetRecord recordAt room tableOf regrouped joinedBelow filledBelow someBelow up sumBelow mostBelow ownChoice others everyone backupOf largestBackup backupElsewhere backupFromFault backupAfter struckElsewhere stageOne stageTwo firstFrom leastWithin timeElsewhere lengthOne timeItself responseTime passes levelsOf inRow entriesFor spread choicesOf sift passingOf before afterOf
+unfolding rows times choice sheetA lone
+    headerOf countOf intervalOf partOf recordFrom recordOf sheetRecord recordAt room tableOf regrouped joinedBelow filledBelow someBelow
+    up sumBelow mostBelow ownChoice others everyone backupOf largestBackup backupElsewhere backupFromFault backupAfter
+    struckElsewhere stageOne stageTwo firstFrom leastWithin timeElsewhere lengthOne timeItself responseTime passes
+    levelsOf inRow entriesFor spread choicesOf sift passingOf before afterOf
 rows-hold = one refl (one refl (one refl (one refl (one refl (one refl (one refl (one refl (one refl none))))))))

@@ -1,40 +1,22 @@
 -- Tests and carries over whole choices, place by place, as loops go through them. Assumes nothing.
 use Prim.Native.Nat.{ℕ, zero, suc, _+_, _≤_, _<_}
 use mathlib.Core.Path.{_≡_, ap, ap₂, _∙_}
-use mathlib.Core.Bool.{true, false, cond, not, _&&_}
+use mathlib.Core.Bool.{true, false, cond, _&&_}
 use mathlib.Core.List.{List, [], _∷_, _++_, map}
 use native.Mathlib.Nat.{not-suc-le-zero, le-of-suc-le-suc}
-use native.Mathlib.Numerals.{add-one}
-use native.Mathlib.Decide.{decLt}
 use native.Mathlib.Omega.{arith}
-use borrow.Author.Tests.{lt-ltb, le-ltb, le-leb, lt-leb}
-use lib.Dec.{eqb, ltb, leb}
+use lib.Dec.{eqb, ltb}
 use lib.ListN.{length, getD, take, drop, replicate}
-use lib.Seq.{drop-cons, take-all}
+use lib.Seq.{take-all}
 use Rattle.sheet.specs.Places.{filledBelow}
 use Rattle.sheet.proofs.Spelled.{spelled-take}
-use Rattle.choices.specs.Order.{isAllowed, allAllowed, allZero}
+use Rattle.analysis.proofs.Choice.{rest-at}
+use Rattle.choices.specs.Order.{allZero}
 use Rattle.choices.specs.Stepping.{firstFor, Carried, carried}
-
--- what is not above is at most
-pub not-above : (a b : ℕ) → not (ltb b a) ≡ leb a b
-not-above a b = go (decLt b a)
-  where
-    go : Dec (b < a) → not (ltb b a) ≡ leb a b
-    go (yes h) = simp (lt-ltb b a h, lt-leb a b h)
-    go (no h) = simp (le-ltb b a (omega arith), le-leb a b (omega arith))
-
--- the rest of a list from a place on is the element there and the rest after it
-rest : (l : List ℕ) (k : ℕ) → k < length l → drop k l ≡ getD l k 0 ∷ drop (k + 1) l
-rest l k h = rw add-one (drop-cons l k 0 h)
 
 pub zero-at : (l : List ℕ) (k : ℕ) → k < length l → allZero (drop k l) ≡ (eqb (getD l k 0) 0 && allZero (drop (k + 1) l))
 unfolding allZero
-zero-at l k h = ap allZero (rest l k h)
-
-pub allowed-at : (ps qs : List ℕ) (k : ℕ) → k < length ps → k < length qs → allAllowed (drop k ps) (drop k qs) ≡ (isAllowed (getD ps k 0) (getD qs k 0) && allAllowed (drop (k + 1) ps) (drop (k + 1) qs))
-unfolding allAllowed
-allowed-at ps qs k hp hq = ap₂ allAllowed (rest ps k hp) (rest qs k hq)
+zero-at l k h = ap allZero (rest-at l k h)
 
 -- eight places filled from a list of eight are the list's images
 pub filled-map : (f : ℕ → ℕ) (l : List ℕ) → length l ≡ 8 → filledBelow (λ k. f (getD l k 0)) 8 (replicate 8 0) ≡ map f l
@@ -46,7 +28,7 @@ pub carried-at : (ps qs : List ℕ) (k : ℕ) → k < length ps → k < length q
     → carried (drop k ps) (drop k qs)
     ≡ record { rose = ltb (getD qs k 0) (getD ps k 0); entries = cond (ltb (getD qs k 0) (getD ps k 0)) (suc (getD qs k 0)) (firstFor (getD ps k 0)) ∷ carried (drop (k + 1) ps) (drop (k + 1) qs) .entries }
 unfolding carried
-carried-at ps qs k hp hq e = ap₂ carried (rest ps k hp) (rest qs k hq) ∙ simp e
+carried-at ps qs k hp hq e = ap₂ carried (rest-at ps k hp) (rest-at qs k hq) ∙ simp e
 
 -- where an entry rose from a place on, those before it stay
 pub carried-front : (k : ℕ) (ps qs : List ℕ) → k ≤ length ps → k ≤ length qs → carried (drop k ps) (drop k qs) .rose ≡ true

@@ -8,12 +8,13 @@ use Rattle.sheet.specs.declared.Table.{Table}
 use Rattle.sheet.specs.Places.{orElse}
 use Rattle.sheet.specs.Packing.{regrouped}
 use Rattle.sheet.specs.Rules.{tableRefusal}
+use Rattle.analysis.specs.Allowed.{levelsOf, allAllowed}
 use Rattle.choices.specs.declared.Walk.{Walk}
 use Rattle.choices.specs.declared.Arrival.the-variants.{Passing, End, Refused}
 use Rattle.choices.specs.declared.Stepped.{Stepped}
 use Rattle.choices.specs.declared.Listing.{Listing}
-use Rattle.choices.specs.Choices.{levelsOf, passingOf}
-use Rattle.choices.specs.Order.{allAllowed, allZero, afterOf}
+use Rattle.choices.specs.Choices.{passingOf}
+use Rattle.choices.specs.Order.{allZero, afterOf}
 
 -- `Walk::start`: "before the first choice, shown by eight zero entries"
 abbrev pub startWalk : Walk

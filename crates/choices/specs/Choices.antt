@@ -2,16 +2,10 @@
 use Prim.Native.Nat.{ℕ, zero, suc}
 use mathlib.Core.Bool.{Bool, cond}
 use mathlib.Core.List.{List, [], _∷_, _++_, map}
-use lib.ListN.{replicate}
 use Rattle.sheet.specs.declared.Table.{Table}
-use Rattle.sheet.specs.Places.{filledBelow}
-use Rattle.sheet.specs.Layout.{recordAt}
 use Rattle.analysis.specs.Tasks.{tasksOf}
 use Rattle.analysis.specs.Response.{passes}
-
--- the priorities of the records in record order, in eight entries, 0 past the count
-unfoldable pub levelsOf : Table → List ℕ
-levelsOf t = filledBelow (λ place. recordAt (t .records) place .priority) (t .count) (replicate 8 0)
+use Rattle.analysis.specs.Allowed.{levelsOf}
 
 -- n numbers in a row
 unfoldable pub inRow : ℕ → ℕ → List ℕ

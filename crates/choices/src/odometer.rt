@@ -1,17 +1,18 @@
-// From one choice to the next: which choices are allowed, the choice right after another, and the next one that passes.
+// From one choice to the next: whether a walk may go on after a start, the choice right after another, and the next one that passes.
 ghost use mathlib.Core.Path.{_≡_};
 ghost use mathlib.Core.Bool.{true};
 ghost use Prim.Native.Nat.{_≤_};
 ghost use mathlib.Core.List.{map};
-ghost use Rattle.choices.specs.Choices.{levelsOf, passingOf};
-ghost use Rattle.choices.specs.Order.{isAllowed, allAllowed, allZero, afterOf};
+ghost use Rattle.analysis.specs.Allowed.{levelsOf};
+ghost use Rattle.choices.specs.Choices.{passingOf};
+ghost use Rattle.choices.specs.Order.{allZero, afterOf};
 ghost use Rattle.choices.specs.Answers.{walkRefusal};
 ghost use Rattle.choices.specs.Stepping.{firstFor, foundIn, nextOf};
 use crate::Found;
 use sheet::Table;
 
 // The priorities of a table's records, 0 past the count.
-fn levels(table: Table) -> [u8; 8]
+fn levels_of(table: Table) -> [u8; 8]
     requires { ⌜ table .count ≤ 8 ⌝ }
     ensures { λ r. ⌜ r ≡ levelsOf table ⌝ }
 {
@@ -24,34 +25,6 @@ fn levels(table: Table) -> [u8; 8]
         place += 1;
     }
     levels
-}
-
-// Whether an entry is allowed at a place of the level.
-fn is_allowed(level: u8, entry: u8) -> bool
-    ensures { λ r. ⌜ r ≡ isAllowed level entry ⌝ }
-{
-    if level == 0 {
-        return entry == 0;
-    }
-    if entry == 0 {
-        return false;
-    }
-    entry <= level
-}
-
-// Whether every entry is allowed.
-fn all_allowed(levels: [u8; 8], choice: [u8; 8]) -> bool
-    ensures { λ r. ⌜ r ≡ allAllowed levels choice ⌝ }
-{
-    let mut place: usize = 0;
-    while place < 8 {
-        if is_allowed(levels[place], choice[place]) {
-            place += 1;
-        } else {
-            return false;
-        }
-    }
-    true
 }
 
 // Whether every entry is zero.
@@ -68,21 +41,14 @@ fn all_zero(choice: [u8; 8]) -> bool
     true
 }
 
-// The refusal of going on after a choice: the table's, then 13.
+// The refusal of going on after a start, which is all zero or a choice: the table's, then 13.
 pub fn judge_start(table: Table, start: [u8; 8]) -> u8
     ensures { λ r. ⌜ r ≡ walkRefusal table start ⌝ }
 {
-    let refusal = sheet::judge_table(table);
-    if refusal != 0 {
-        return refusal;
-    }
     if all_zero(start) {
-        return 0;
+        return sheet::judge_table(table);
     }
-    if all_allowed(levels(table), start) {
-        return 0;
-    }
-    13
+    analysis::judge_choice(table, start)
 }
 
 // The first entry allowed at a place of the level.
@@ -140,7 +106,7 @@ pub fn advance(table: Table, start: [u8; 8]) -> Found
     requires { ⌜ walkRefusal table start ≡ 0 ⌝ }
     ensures { λ r. ⌜ r ≡ foundIn start (afterOf start (passingOf table)) ⌝ }
 {
-    let levels = levels(table);
+    let levels = levels_of(table);
     let mut choice = start;
     loop {
         let found = next(levels, choice);

@@ -1,41 +1,23 @@
-// The rows of listing every passing choice into a buffer, which holds the filler EE before, a byte that no list has in it.
-use crate::listed;
-use crate::listed::Form;
-use crate::report;
-use crate::report::Tally;
+// What is answered in the rows of listing every passing choice into the first bytes of a buffer, so many as the second figure says.
+// The buffer holds the filler EE before, a byte that no list has in it.
+use crate::samples;
 use choices::Listing;
 use sheet::Table;
 
-// What each byte of a buffer holds before.
-pub const FILLER: u8 = 0xEE;
+// What each byte of the buffer holds before.
+const FILLER: u8 = 0xEE;
 
-// Rows 7, 8, 9 and 12 of document 01; buffers that are longer and shorter than the list; a lone task, and rubbish past the count;
-// fault priorities of the table's own, which play no part; refused tables; and eight tasks.
-pub fn rows(tally: Tally) -> Tally {
-    let list =
-        b"row 7 list for A, E = 9, into 8 bytes:A\x09\x00\x02\x08\x11\x10\x00\x00\x12\x10\x00\x00\
-        row 8 list for A, E = 8, into 4 bytes:A\x08\x00\x00\x04\xEE\xEE\xEE\xEE\
-        row 9 list for A, E = 10, into 24 bytes:A\x0A\x00\x06\x18\
-        \x11\x10\x00\x00\x12\x10\x00\x00\x21\x10\x00\x00\
-        \x22\x10\x00\x00\x31\x10\x00\x00\x32\x10\x00\x00\
-        row 12 list for one task C, B, D, T all 1, E = 255, into 4 bytes:1\xFF\x00\x00\x04\xEE\xEE\xEE\xEE\
-        list for A, E = 9, into 12 bytes:A\x09\x00\x02\x0C\x11\x10\x00\x00\x12\x10\x00\x00\xEE\xEE\xEE\xEE\
-        list for A, E = 9, into 7 bytes:A\x09\x0B\x00\x07\xEE\xEE\xEE\xEE\xEE\xEE\xEE\
-        list for A, E = 9, into 0 bytes:A\x09\x0B\x00\x00\
-        list for A, E = 8, into 0 bytes:A\x08\x00\x00\x00\
-        list for one task C, B 1 and D, T 2, E = 2, into 4 bytes:2\x02\x00\x01\x04\x10\x00\x00\x00\
-        the same with rubbish past the count:R\x02\x00\x01\x04\x10\x00\x00\x00\
-        list for one task C, B 1 and D, T 2, E = 1, into 4 bytes:2\x01\x00\x00\x04\xEE\xEE\xEE\xEE\
-        list for A, q = 1 1 1, E = 9, into 8 bytes:L\x09\x00\x02\x08\x11\x10\x00\x00\x12\x10\x00\x00\
-        list for A with E = 0, into 8 bytes:A\x00\x05\x00\x08\xEE\xEE\xEE\xEE\xEE\xEE\xEE\xEE\
-        list for A with count 0, into 0 bytes:Z\x09\x02\x00\x00\
-        list for eight tasks, E = 11, where one choice passes, into 8 bytes:T\x0B\x00\x01\x08\x12\x12\x23\x61\xEE\xEE\xEE\xEE\
-        list for eight tasks, E = 10, where none passes, into 4 bytes:T\x0A\x00\x00\x04\xEE\xEE\xEE\xEE";
-    listed::rows(tally, Form::List, list)
+// Says a refusal and the number of choices found, and the word in front of the bytes that came with them.
+pub fn say_listing(list: &[u8], at: usize, answer: Listing) -> usize {
+    let at = rows::say(list, at, b" refusal");
+    let at = rows::say_spaced(list, at, answer.refusal as u64);
+    let at = rows::say(list, at, b", found");
+    let at = rows::say_spaced(list, at, answer.entries as u64);
+    rows::say(list, at, b", bytes")
 }
 
 // Lists a table's choices into the first bytes of a buffer.
-pub fn list_into(table: Table, buffer: &mut [u8], length: usize) -> Listing {
+fn list_into(table: Table, buffer: &mut [u8], length: usize) -> Listing {
     if length <= buffer.len() {
         choices::list(table, &mut buffer[0..length])
     } else {
@@ -43,10 +25,40 @@ pub fn list_into(table: Table, buffer: &mut [u8], length: usize) -> Listing {
     }
 }
 
-// The rest of the row of a list into a buffer that is as long as what it is to hold after.
-pub fn listed(tally: Tally, table: Table, expected: Listing, bytes: &[u8]) -> Tally {
-    let mut buffer = [FILLER; 24];
-    let answer = list_into(table, &mut buffer, bytes.len());
-    let left = listed::first(&buffer, bytes.len());
-    report::choices(tally, answer, left, expected, bytes)
+// How many bytes of so many are said: all, or the first sixteen where there are many.
+fn shown(length: usize) -> usize {
+    if length <= 24 { length } else { 16 }
+}
+
+// The list, and the first bytes of the buffer after it.
+pub fn listed(list: &[u8], start: usize, at: usize) -> usize {
+    let mut buffer = [FILLER; 161280];
+    let length = rows::figure(list, start, 2) as usize;
+    let answer = list_into(samples::table(list, start), &mut buffer, length);
+    let found = say_listing(list, at, answer);
+    rows::say_bytes(list, found, rows::first(&buffer, shown(length)))
+}
+
+// A checksum of the whole buffer after it.
+pub fn checked(list: &[u8], start: usize, at: usize) -> usize {
+    let mut buffer = [FILLER; 161280];
+    let length = rows::figure(list, start, 2) as usize;
+    list_into(samples::table(list, start), &mut buffer, length);
+    rows::say_spaced(list, at, checksum(&buffer))
+}
+
+// A checksum with one byte more.
+fn mixed(sum: u64, byte: u8) -> u64 {
+    (sum % 4294967296 * 31 + byte as u64) % 4294967296
+}
+
+// A checksum of a list's bytes.
+fn checksum(bytes: &[u8]) -> u64 {
+    let mut sum: u64 = 0;
+    let mut place: usize = 0;
+    while place < bytes.len() {
+        sum = mixed(sum, bytes[place]);
+        place += 1;
+    }
+    sum
 }

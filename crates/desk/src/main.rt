@@ -1,34 +1,68 @@
 // The desk: reads one sheet from standard input and prints what document 01 says of it.
 // It reads, calls and writes; every figure and every byte of a line comes from the libraries below.
-use libc::STDIN_FILENO;
+// Its first argument, if it has one, asks for more: `status` for how the sheet stands, as a digit on descriptor 3,
+// and `explain` for that and for a refusal in words on standard error.
+use input::Filled;
+use sheet::Table;
 
+mod explanation;
 mod input;
 mod output;
 mod passing;
 mod responses;
+mod standing;
 
-// Prints the answer to a sheet: its refusal, or its times and then its choices. Whether all of it could be written.
-fn answer(sheet: &[u8]) -> bool {
-    let reading = sheet::read(sheet);
-    if reading.refusal != 0 {
-        return output::line(report::refused_line(reading.refusal));
-    }
-    let table = reading.table;
+// Prints the answer to a good sheet, its times and then its choices, and gives how it stands.
+fn answer(table: Table) -> u8 {
     if responses::print(table) {
-        return passing::print(table);
+        if passing::print(table) {
+            return standing::of(table);
+        }
     }
-    false
+    output::failed()
 }
 
-// 76 bytes decide any input that is longer than a sheet can be, so the rest is read and dropped.
+// Prints the answer to the first bytes, as a sheet of that length, and gives how it stands.
+fn judge(bytes: [u8; 76], length: usize, is_explained: bool) -> u8 {
+    if 76 < length {
+        return standing::TROUBLE;
+    }
+    let reading = sheet::read(&bytes[..length]);
+    if reading.refusal == 0 {
+        let table = reading.table;
+        return answer(table);
+    }
+    if !output::line(report::refused_line(reading.refusal)) {
+        return output::failed();
+    }
+    if is_explained {
+        explanation::print(bytes, length, reading.refusal);
+    }
+    standing::TROUBLE
+}
+
+// Says why the input could not be read.
+fn failed() -> u8 {
+    os::fail(b"desk: standard input");
+    standing::TROUBLE
+}
+
+// The answer to standard input. 76 bytes decide any input that is longer than a sheet can be, so the rest is read and dropped.
+fn judge_input(is_explained: bool) -> u8 {
+    let mut bytes = [0u8; 76];
+    match input::fill(&mut bytes) {
+        Filled::Ended(length) => judge(bytes, length, is_explained),
+        Filled::Full => {
+            if input::is_read_to_its_end() {
+                return judge(bytes, 76, is_explained);
+            }
+            failed()
+        }
+        Filled::Failed => failed(),
+    }
+}
+
 fn main() {
-    let mut buffer = [0u8; 76];
-    let length = io::read_full(STDIN_FILENO, &mut buffer);
-    if !input::is_read_to_its_end() {
-        os::fail(b"standard input");
-        return;
-    }
-    if !answer(&buffer[..length]) {
-        os::fail(b"standard output");
-    }
+    let word = standing::asked();
+    standing::tell(word, judge_input(word == standing::EXPLAIN));
 }

@@ -1,4 +1,5 @@
 // Lines gathered in a buffer and written to standard output.
+use crate::standing;
 use libc::STDOUT_FILENO;
 use report::Line;
 
@@ -34,6 +35,12 @@ pub fn finish(buffer: &mut [u8], end: usize, line: Line) -> bool {
         Kept::Next(next) => write(buffer, next),
         Kept::Lost => false,
     }
+}
+
+// Says why the answer could not be written.
+pub fn failed() -> u8 {
+    os::fail(b"desk: standard output");
+    standing::TROUBLE
 }
 
 // Writes one line.

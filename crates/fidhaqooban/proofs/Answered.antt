@@ -24,7 +24,7 @@ use Rattle.analysis.specs.declared.Passing.{Passing}
 use Rattle.analysis.specs.declared.Interval.{Interval}
 use Rattle.analysis.specs.declared.Interval.the-variants.{Refused, Least, Nothing}
 use Rattle.analysis.specs.Response.{responseTime, passes}
-use Rattle.analysis.specs.Answers.{ownTasks, outcomeOf, entryOf, timedRefusal, timedAnswer, passingOf, choiceAnswer, verdictAnswer, leastInterval, intervalOf, intervalAnswer}
+use Rattle.analysis.specs.Answers.{ownTasks, outcomeOf, entryOf, timedRefusal, timedAnswer, verdictOf, verdictAnswer, leastInterval, leastOf, intervalAnswer}
 use Rattle.fidhaqooban.specs.Numbers.{answerOf, timeOf}
 use Rattle.fidhaqooban.specs.Answers.{responseNumber, verdictNumber, intervalNumber}
 
@@ -85,8 +85,8 @@ intervalAnswered (Least interval) = answerOf 0 interval
 intervalAnswered Nothing = answerOf 0 0
 
 -- it is the least interval, or the refusal
-interval-answered : (refusal least : ℕ) → intervalAnswered (intervalOf refusal least) ≡ answerOf refusal least
-unfolding intervalAnswered intervalOf answerOf
+interval-answered : (refusal least : ℕ) → intervalAnswered (leastOf refusal least) ≡ answerOf refusal least
+unfolding intervalAnswered leastOf answerOf
 interval-answered zero zero = refl
 interval-answered zero (suc n) = simp (some n)
 interval-answered (suc n) least = simp (some n)
@@ -108,7 +108,7 @@ module _ (s : List ℕ) (reading : Reading) (e : reading ≡ readAnswer s) (left
       ∙ ap (λ (r : ℕ). answerOf r (responseTime (ownTasks (tableOf s)) place)) (place-refused place)
 
   pub verdict-is : (passing : Passing) → passing ≡ verdictAnswer (reading .table) → answerOf (passing .refusal) (cond (passing .passes) 1 0) ≡ verdictNumber s
-  unfolding verdictAnswer choiceAnswer passingOf verdictNumber
+  unfolding verdictAnswer verdictOf verdictNumber
   verdict-is passing given =
       ap (λ (p : Passing). answerOf (p .refusal) (cond (p .passes) 1 0)) (given ∙ ap verdictAnswer (table-read s reading e left))
       ∙ simp (good-table-read, good-read s reading e left)

@@ -5,4 +5,5 @@ pub mod Answered
 pub mod Written
 pub mod Chosen
 pub mod Demands
+pub mod Refused
 pub mod Unique

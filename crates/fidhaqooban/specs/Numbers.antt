@@ -25,8 +25,8 @@ unfoldable pub byteOf : ℕ → ℕ
 byteOf number = min number 255
 
 -- "six numbers for each record (cost, backup, deadline, period, priority, fault priority)"
-unfoldable pub recordFrom : List ℕ → ℕ → Record
-recordFrom numbers place =
+unfoldable pub givenRecord : List ℕ → ℕ → Record
+givenRecord numbers place =
     record {
       cost = numberAt numbers (6 * place);
       backup = numberAt numbers (6 * place + 1);
@@ -38,7 +38,7 @@ recordFrom numbers place =
 
 -- the table whose eight records the numbers give
 unfoldable pub tableFrom : ℕ → ℕ → List ℕ → Table
-tableFrom count interval numbers = record { count = count; interval = interval; records = room (recordFrom numbers) 8 }
+tableFrom count interval numbers = record { count = count; interval = interval; records = room (givenRecord numbers) 8 }
 
 -- "numbers after 6 × count are ignored"
 unfoldable pub givenTable : ℕ → ℕ → List ℕ → Table

@@ -65,7 +65,7 @@ pub extern "C" fn fq_response(sheet: &[u8], place: usize) -> i64
     let timed = analysis::response_time(table, place);
     let entry = timed.entry;
     let outcome = entry.outcome;
-    numbers::answer(timed.refusal, numbers::time(outcome))
+    numbers::answer(timed.refusal, numbers::time_of(outcome))
 }
 
 // 1 where the sheet passes, 0 where it does not.
@@ -109,7 +109,7 @@ pub extern "C" fn fq_next(sheet: &[u8], after: u32) -> i64
         return numbers::answer(reading.refusal, 0);
     }
     let table = reading.table;
-    let entries = numbers::entries(after);
+    let entries = numbers::entries_of(after);
     let walk = Walk { entries };
     let stepped = walk.step(table);
     let arrival = stepped.arrival;
@@ -118,7 +118,7 @@ pub extern "C" fn fq_next(sheet: &[u8], after: u32) -> i64
         Arrival::Passing => {
             let walk = stepped.walk;
             let entries = walk.entries;
-            numbers::answer(0, numbers::choice(entries) as usize)
+            numbers::answer(0, numbers::choice_of(entries) as usize)
         }
         Arrival::End => numbers::answer(0, 0),
     }

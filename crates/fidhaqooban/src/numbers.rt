@@ -2,7 +2,7 @@
 ghost use mathlib.Core.Path.{_≡_};
 ghost use Prim.Native.Nat.{_<_, _^_};
 ghost use Rattle.choices.specs.Stepping.{small};
-ghost use Rattle.fidhaqooban.specs.Numbers.{answerOf, numberAt, byteOf, recordFrom, tableFrom, givenTable, timeOf, entriesOf, choiceOf};
+ghost use Rattle.fidhaqooban.specs.Numbers.{answerOf, numberAt, byteOf, givenRecord, tableFrom, givenTable, timeOf, entriesOf, choiceOf};
 use analysis::Outcome;
 use sheet::Record;
 use sheet::Table;
@@ -19,7 +19,7 @@ pub fn answer(refusal: u8, value: usize) -> i64
 }
 
 // The number at a place, 0 where there is none.
-fn number(numbers: &[u16], place: usize) -> u16
+fn number_at(numbers: &[u16], place: usize) -> u16
     ensures { λ r. ⌜ r ≡ numberAt (now (numbers .entry)) place ⌝ }
 {
     if place < numbers.len() {
@@ -39,20 +39,19 @@ fn byte(number: u16) -> u8
 // The record of the six numbers at a place.
 fn record(numbers: &[u16], place: usize) -> Record
     requires { ⌜ place < 8 ⌝ }
-    ensures { λ r. ⌜ r ≡ recordFrom (now (numbers .entry)) place ⌝ }
+    ensures { λ r. ⌜ r ≡ givenRecord (now (numbers .entry)) place ⌝ }
 {
     let start = 6 * place;
     Record {
-        cost: number(numbers, start),
-        backup: number(numbers, start + 1),
-        deadline: number(numbers, start + 2),
-        period: number(numbers, start + 3),
-        priority: byte(number(numbers, start + 4)),
-        fault_priority: byte(number(numbers, start + 5)),
+        cost: number_at(numbers, start),
+        backup: number_at(numbers, start + 1),
+        deadline: number_at(numbers, start + 2),
+        period: number_at(numbers, start + 3),
+        priority: byte(number_at(numbers, start + 4)),
+        fault_priority: byte(number_at(numbers, start + 5)),
     }
 }
 
-// A record of zeros.
 // The table of numbers that are all its own.
 fn table_of(count: u8, interval: u16, numbers: &[u16]) -> Table
     ensures { λ r. ⌜ r ≡ tableFrom count interval (now (numbers .entry)) ⌝ }
@@ -82,7 +81,7 @@ pub fn table(count: u8, interval: u16, numbers: &[u16]) -> Table
 }
 
 // An outcome's time, 0 where it is late.
-pub fn time(outcome: Outcome) -> usize
+pub fn time_of(outcome: Outcome) -> usize
     ensures { λ r. ⌜ (r ≡ timeOf outcome) × (r < 65536) ⌝ }
 {
     match outcome {
@@ -92,7 +91,7 @@ pub fn time(outcome: Outcome) -> usize
 }
 
 // The entries of a choice that is given as a number.
-pub fn entries(choice: u32) -> [u8; 8]
+pub fn entries_of(choice: u32) -> [u8; 8]
     ensures { λ r. ⌜ r ≡ entriesOf choice ⌝ }
 {
     let mut entries = [0u8; 8];
@@ -107,7 +106,7 @@ pub fn entries(choice: u32) -> [u8; 8]
 }
 
 // A choice as a number.
-pub fn choice(entries: [u8; 8]) -> u32
+pub fn choice_of(entries: [u8; 8]) -> u32
     requires { ⌜ small entries ⌝ }
     ensures { λ r. ⌜ r ≡ choiceOf entries ⌝ }
 {

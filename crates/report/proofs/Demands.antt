@@ -1,15 +1,18 @@
--- The demands on lines in words, about the definitions: a decimal spells its number, in digits only and without a leading zero, and a line holds its whole text.
--- Assumes nothing.
+-- The demands on lines in words, about the definitions: a decimal spells its number, in digits only and without a leading zero, a line holds its whole text, and one without room is not put.
+-- Document 01's own lines, byte by byte, are in Lines.antt. Assumes nothing.
 use Prim.Native.Nat.{ℕ, zero, suc, _+_, _-_, _*_, _/_, _%_, _^_, _≤_, _<_, min}
 use mathlib.Core.Path.{_≡_, refl, sym, _∙_}
 use mathlib.Core.List.{List, [], _∷_, _++_}
 use mathlib.Core.Logic.{⊎-elim}
 use native.Mathlib.Nat.{mod-lt, div-add-mod', le-div-iff-mul-le, eq-or-lt-of-le}
 use native.Mathlib.Omega.{arith}
+use borrow.Author.Tests.{le-leb, lt-leb}
 use lib.ListN.{length, getD, length-append, List·getD-append}
-use lib.Seq.{getD-at}
+use lib.Seq.{sets, getD-at}
 use Rattle.analysis.specs.declared.Outcome.{Outcome}
 use Rattle.analysis.specs.declared.Outcome.the-variants.{OnTime}
+use Rattle.report.specs.declared.Line.{Line}
+use Rattle.report.specs.Pages.{textOf, hasRoom, putEnd, putLeaves}
 use Rattle.report.specs.Words.{intervalWord, endWord, refusedWord}
 use Rattle.report.specs.Decimal.{digit, decimal, valueAfter, valueOf}
 use Rattle.report.specs.Texts.{intervalText, taskText, passText, endText, refusedText}
@@ -61,20 +64,34 @@ no-leading-zero n = by-digits (λ n ds. (0 < length ds) × (getD ds 0 0 ≡ digi
       λ e. absurd (omega (arith, again .1 (sym (List·getD-append ds (digit (n % 10) ∷ []) 0 0 (again .0)) ∙ e), le-div-iff-mul-le {k = 10} {x = 1} {y = n} (omega arith) .1 (omega arith))),
     )
 
--- a line holds its whole text, whatever the call is given
+-- a line holds its whole text, whatever the call is given: the interval's,
 pub interval-held : (interval : ℕ) → interval < 2 ^ 16 → Held (intervalText interval)
 interval-held interval narrow = held-number intervalWord interval (omega arith) (omega arith)
 
+-- a task's,
 pub task-held : (place : ℕ) (outcome : Outcome) → place < 2 ^ 8 → ((time : ℕ) → outcome ≡ OnTime time → time < 2 ^ 16) → Held (taskText place outcome)
 unfolding taskText
 task-held place outcome narrow short = held (taskText place outcome) (simp length-append (omega (arith, length-decimal 2 (place + 1) (omega arith), length-outcome outcome short)))
 
+-- a choice's,
 pub pass-held : (count : ℕ) (choice : List ℕ) → ((place : ℕ) → getD choice place 0 < 2 ^ 8) → Held (passText count choice)
 unfolding passText
 pass-held count choice narrow = held (passText count choice) (simp length-append (omega (arith, length-entries choice narrow (min count 8))))
 
+-- the last one,
 pub end-held : (number : ℕ) → number < 2 ^ 64 → Held (endText number)
 end-held number narrow = held-number endWord number (omega arith) narrow
 
+-- and a refusal's
 pub refused-held : (refusal : ℕ) → refusal < 2 ^ 8 → Held (refusedText refusal)
 refused-held refusal narrow = held-number refusedWord refusal (omega arith) (omega arith)
+
+-- `put_line`: a text that ends past the output is not put, and its place comes back
+pub put-no-room : (line : Line) (out : List ℕ) (at : ℕ) → length out < at + length (textOf line) → (putEnd line out at ≡ at) × (putLeaves line out at ≡ out)
+unfolding putEnd putLeaves hasRoom
+put-no-room line out at short = simp (lt-leb (at + length (textOf line)) (length out) short) (refl, refl)
+
+-- any other is, and where it ends comes back
+pub put-room : (line : Line) (out : List ℕ) (at : ℕ) → at + length (textOf line) ≤ length out → (putEnd line out at ≡ at + length (textOf line)) × (putLeaves line out at ≡ sets out at (textOf line))
+unfolding putEnd putLeaves hasRoom
+put-room line out at room = simp (le-leb (at + length (textOf line)) (length out) room) (refl, refl)

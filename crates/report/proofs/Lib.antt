@@ -3,5 +3,6 @@ pub mod Decimal
 pub mod Putting
 pub mod Pages
 pub mod Fitting
+pub mod Lines
 pub mod Demands
 pub mod Unique

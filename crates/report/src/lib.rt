@@ -64,7 +64,7 @@ pub fn put_line(line: Line, out: &mut [u8], at: usize) -> usize
     ensures { λ r. ⌜ (r ≡ putEnd line (now (out .entry)) at) × (now (out .exit) ≡ putLeaves line (now (out .entry)) at) ⌝ }
 {
     let bytes = line.bytes;
-    let size = page::size(line.len);
+    let size = page::text_size(line.len);
     if page::fits(size, out.len(), at) {
         page::copy(out, at, bytes, size);
         return at + size;

@@ -6,7 +6,7 @@ ghost use lib.ListN.{length, take};
 ghost use lib.Seq.{sets};
 
 // How many of forty bytes are a text, for any length beside them.
-pub fn size(len: usize) -> usize
+pub fn text_size(len: usize) -> usize
     ensures { λ r. ⌜ r ≡ min len 40 ⌝ }
 {
     if len < 40 { len } else { 40 }

@@ -11,4 +11,5 @@ pub mod Stores
 pub mod Agree
 pub mod Return
 pub mod Demands
+pub mod Refused
 pub mod Unique

@@ -1,15 +1,17 @@
 -- Runs of stores: one run after another, and the lengths of what the layout puts. Assumes nothing.
-use Prim.Native.Nat.{ℕ, zero, suc, _+_, _*_, _%_, _^_, _≤_}
+use Prim.Native.Nat.{ℕ, zero, suc, _+_, _*_, _/_, _%_, _^_, _≤_}
 use mathlib.Core.Path.{_≡_, refl, sym, ap, ap₂, subst, _∙_}
 use mathlib.Core.List.{List, [], _∷_, _++_}
 use native.Mathlib.Nat.{zero-add, add-zero, add-suc, suc-add, mul-zero, mul-suc}
-use lib.ListN.{length, drop, length-append}
+use native.Mathlib.Numerals.{towards-suc}
+use lib.ListN.{length, set, drop, length-append}
 use lib.Seq.{sets, sets-eq}
 use Rattle.sheet.specs.declared.Record.{Record}
 use Rattle.sheet.specs.declared.Table.{Table}
 use Rattle.sheet.specs.Places.{joinedBelow}
 use Rattle.sheet.specs.Packing.{bitsOf, packed, unpacked, regrouped}
 use Rattle.sheet.specs.Layout.{bytes, sizeOf, recordAt, recordBytes, headerBytes, sheetOf}
+use Rattle.sheet.proofs.Spelled.{Sized, record-put}
 
 -- a run of stores where the one before it ended is one longer run
 pub sets-after : (l vs ws : List ℕ) (i k : ℕ) → k ≡ i + length vs → sets (sets l i vs) k ws ≡ sets l i (vs ++ ws)
@@ -46,6 +48,16 @@ length-header count interval = length-regrouped _ (bytes 3) _
 pub length-sheet : (t : Table) → length (sheetOf t) ≡ sizeOf (t .count)
 unfolding sheetOf sizeOf
 length-sheet t = length-append (headerBytes (t .count) (t .interval)) _ ∙ ap₂ _+_ (length-header (t .count) (t .interval)) (length-records (recordAt (t .records)) (t .count))
+
+-- the two bytes that a field is put as
+abbrev fieldBytes : ℕ → List ℕ
+fieldBytes x = x / 256 ∷ x % 256 ∷ []
+
+-- the stores of a record's four fields and of its priorities leave its nine bytes
+pub record-stored : (out : List ℕ) (i : ℕ) (r : Record) → Sized r
+    → set (sets (sets (sets (sets out i (fieldBytes (r .cost))) (i + 2) (fieldBytes (r .backup))) (i + 4) (fieldBytes (r .deadline))) (i + 6) (fieldBytes (r .period))) (i + 8) (r .priority * 16 + r .«fault_priority»)
+    ≡ sets out i (recordBytes r)
+record-stored out i r z = rw (record-put r z) (simp towards-suc)
 
 -- the header's stores and then the records' leave the sheet, and the bytes after it as they were
 pub sheet-stored : (t : Table) (out : List ℕ) → sizeOf (t .count) ≤ length out

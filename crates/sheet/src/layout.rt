@@ -1,7 +1,7 @@
 // The sheet's layout as code: fields read from bytes, fields put into bytes, records and tables made of them.
 ghost use mathlib.Core.Path.{_≡_};
-ghost use mathlib.Core.List.{_++_};
-ghost use Prim.Native.Nat.{_+_, _*_, _≤_, _<_};
+ghost use mathlib.Core.List.{[], _∷_, _++_};
+ghost use Prim.Native.Nat.{_+_, _*_, _/_, _%_, _≤_, _<_};
 ghost use lib.ListN.{length, getD, drop};
 ghost use lib.Seq.{sets};
 ghost use Rattle.sheet.specs.Layout.{countOf, reservedOf, intervalOf, sizeOf, recordOf, room, sheetRecord, tableOf, noRecord, noTable, recordAt, recordBytes, headerBytes, sheetOf};
@@ -64,14 +64,7 @@ pub fn record_from(part: &[u8]) -> Record
     }
 }
 
-// The priority among nine bytes.
-pub fn priority_from(part: &[u8]) -> u8
-    requires { ⌜ length (now part) ≡ 9 ⌝ }
-    ensures { λ r. ⌜ r ≡ recordOf (now (part .entry)) .priority ⌝ }
-{
-    part[8] / 16
-}
-
+// A record of zeros.
 fn no_record() -> Record
     ensures { λ r. ⌜ r ≡ noRecord ⌝ }
 {
@@ -85,6 +78,7 @@ fn no_record() -> Record
     }
 }
 
+// A table of zeros.
 pub fn no_table() -> Table
     ensures { λ r. ⌜ r ≡ noTable ⌝ }
 {
@@ -96,7 +90,7 @@ pub fn no_table() -> Table
 }
 
 // The records of a sheet, zero past the count.
-fn records_of(sheet: &[u8], count: u8) -> [Record; 8]
+pub fn records_of(sheet: &[u8], count: u8) -> [Record; 8]
     requires { ⌜ (count ≤ 8) × (length (now sheet) ≡ sizeOf count) ⌝ }
     ensures { λ r. ⌜ r ≡ room (sheetRecord (now (sheet .entry))) count ⌝ }
 {
@@ -116,13 +110,22 @@ pub fn table_of(sheet: &[u8]) -> Table
     requires { ⌜ (countOf (now sheet) ≤ 8) × (length (now sheet) ≡ sizeOf (countOf (now sheet))) ⌝ }
     ensures { λ r. ⌜ r ≡ tableOf (now (sheet .entry)) ⌝ }
 {
-    let count = count(sheet);
-    let records = records_of(sheet, count);
+    let tasks = count(sheet);
+    let records = records_of(sheet, tasks);
     Table {
-        count,
+        count: tasks,
         interval: interval(sheet),
         records,
     }
+}
+
+// Puts a field's two bytes, the high one first.
+fn put_field(out: &mut [u8], at: usize, value: u16)
+    requires { ⌜ at + 2 ≤ length (now out) ⌝ }
+    ensures { λ _. ⌜ now (out .exit) ≡ sets (now (out .entry)) at (value / 256 ∷ value % 256 ∷ []) ⌝ }
+{
+    out[at] = (value / 256) as u8;
+    out[at + 1] = (value % 256) as u8;
 }
 
 // Puts a record's nine bytes.
@@ -130,14 +133,10 @@ fn put_record(out: &mut [u8], at: usize, task: Record)
     requires { ⌜ (at + 9 ≤ length (now out)) × (task .priority < 16) × (task .«fault_priority» < 16) ⌝ }
     ensures { λ _. ⌜ now (out .exit) ≡ sets (now (out .entry)) at (recordBytes task) ⌝ }
 {
-    out[at] = (task.cost / 256) as u8;
-    out[at + 1] = (task.cost % 256) as u8;
-    out[at + 2] = (task.backup / 256) as u8;
-    out[at + 3] = (task.backup % 256) as u8;
-    out[at + 4] = (task.deadline / 256) as u8;
-    out[at + 5] = (task.deadline % 256) as u8;
-    out[at + 6] = (task.period / 256) as u8;
-    out[at + 7] = (task.period % 256) as u8;
+    put_field(out, at, task.cost);
+    put_field(out, at + 2, task.backup);
+    put_field(out, at + 4, task.deadline);
+    put_field(out, at + 6, task.period);
     out[at + 8] = task.priority * 16 + task.fault_priority;
 }
 
@@ -159,8 +158,7 @@ fn put_header(out: &mut [u8], count: u8, interval: u16)
     ensures { λ _. ⌜ now (out .exit) ≡ sets (now (out .entry)) 0 (headerBytes count interval) ⌝ }
 {
     out[0] = count * 16;
-    out[1] = (interval / 256) as u8;
-    out[2] = (interval % 256) as u8;
+    put_field(out, 1, interval);
 }
 
 // Puts a good table's sheet at the start of an output that is long enough.

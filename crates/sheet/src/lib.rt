@@ -50,7 +50,8 @@ pub fn judge(sheet: &[u8]) -> u8
     if refusal != 0 {
         return refusal;
     }
-    rules::judge_parts(sheet, layout::count(sheet))
+    let count = layout::count(sheet);
+    rules::judge_records(layout::records_of(sheet, count), count)
 }
 
 // The same for a table by value: rules 2 and 5 to 10.

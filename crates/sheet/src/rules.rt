@@ -1,10 +1,10 @@
-// The rules of document 01, 1 to 10, as code: over a sheet, over the nine bytes of one record, and over records by value.
+// The rules of document 01, 1 to 10, as code: over a sheet's header, and over records by value.
 // Which priorities earlier records have is kept as sixteen marks, one for each value of the sheet's four bits.
 ghost use mathlib.Core.Path.{_≡_};
 ghost use mathlib.Core.Bool.{true, false};
 ghost use Prim.Native.Nat.{_≤_};
-ghost use lib.ListN.{length, getD};
-ghost use Rattle.sheet.specs.Layout.{sizeOf, recordOf, sheetRecord, recordAt};
+ghost use lib.ListN.{getD};
+ghost use Rattle.sheet.specs.Layout.{recordAt};
 ghost use Rattle.sheet.specs.Rules.{outside, refusalOf, headerRefusal, recordsRefusal};
 use crate::Record;
 use crate::layout;
@@ -75,37 +75,7 @@ fn judge_record(task: Record, count: u8, is_taken: bool) -> u8
     0
 }
 
-// Rules 6 to 10 for the record that nine bytes of a sheet hold.
-fn judge_part(part: &[u8], count: u8, marks: [bool; 16]) -> u8
-    requires { ⌜ length (now part) ≡ 9 ⌝ }
-    ensures { λ r. ⌜ r ≡ refusalOf count (getD marks (recordOf (now (part .entry)) .priority) false) (recordOf (now (part .entry))) ⌝ }
-{
-    let task = layout::record_from(part);
-    judge_record(task, count, is_marked(marks, task.priority))
-}
-
-// Rules 6 to 10 for each record of a sheet of the right length, in order.
-pub fn judge_parts(sheet: &[u8], count: u8) -> u8
-    requires { ⌜ (count ≤ 8) × (length (now sheet) ≡ sizeOf count) ⌝ }
-    ensures { λ r. ⌜ r ≡ recordsRefusal count (sheetRecord (now (sheet .entry))) ⌝ }
-{
-    let mut marks = [false; 16];
-    let mut place: usize = 0;
-    while place < count as usize {
-        let start = 3 + 9 * place;
-        let end = start + 9;
-        let refusal = judge_part(&sheet[start..end], count, marks);
-        if refusal != 0 {
-            return refusal;
-        }
-        let level = layout::priority_from(&sheet[start..end]) as usize;
-        marks[level] = true;
-        place += 1;
-    }
-    0
-}
-
-// The same for the records of a table, those past the count ignored.
+// Rules 6 to 10 for each record below the count, in order; those past it are ignored.
 pub fn judge_records(records: [Record; 8], count: u8) -> u8
     requires { ⌜ count ≤ 8 ⌝ }
     ensures { λ r. ⌜ r ≡ recordsRefusal count (recordAt records) ⌝ }

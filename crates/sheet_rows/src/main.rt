@@ -1,25 +1,43 @@
-// Runs document 01's rows about sheets, and rows around each rule of a sheet, and prints each with its answer.
-// A line that ends in EXPECTED and what was expected is a row that differs; the last line has the number of the rows and of those that differ.
-mod header;
-mod listed;
-mod parts;
-mod reading;
-mod records;
-mod report;
+// Runs document 01's rows about sheets, and rows around each rule of a sheet, which its standard input lists, and prints each with its answer.
+// A line that ends in EXPECTED and what was expected is a row that differs; the last line counts the rows and those that differ.
+// The figures of each form of row stand at the form's function.
+mod answers;
 mod samples;
-mod tables;
-mod writing;
 
-// How many rows there are in all the groups.
-const ROWS: u64 = 202;
+use libc::STDIN_FILENO;
+use rows::Tally;
 
-// Runs every group of rows, and then says how many there are and how many of them differ.
+// Runs every row of the list that standard input holds.
 fn main() {
-    let tally = header::rows(report::no_rows());
-    let tally = records::rows(tally);
-    let tally = tables::rows(tally);
-    let tally = reading::rows(tally);
-    let tally = writing::rows(tally);
-    let tally = parts::rows(tally);
-    report::total(tally, ROWS);
+    let mut buffer = io::large_buffer();
+    let length = io::read_full(STDIN_FILENO, &mut buffer);
+    rows::total(run(&buffer[..length]));
+}
+
+// Runs every row of a list.
+fn run(list: &[u8]) -> Tally {
+    let mut tally = rows::none();
+    let mut start: usize = 0;
+    while start < list.len() {
+        tally = row(tally, list, start);
+        start = rows::next(list, start);
+    }
+    tally
+}
+
+// Runs the row at a place.
+fn row(tally: Tally, list: &[u8], start: usize) -> Tally {
+    let at = rows::begin(list, start);
+    let end = match rows::byte(list, start) {
+        b's' => answers::sheet_judged(list, start, at),
+        b't' => answers::table_judged(list, start, at),
+        b'r' => answers::read(list, start, at),
+        b'b' => answers::written_and_read(list, start, at),
+        b'a' => answers::read_and_written(list, start, at),
+        b'w' => answers::written(list, start, at),
+        b'p' => answers::place_judged(list, start, at),
+        b'q' => answers::part(list, start, at),
+        _ => rows::MISSED,
+    };
+    rows::end(tally, list, at, end)
 }

@@ -1,34 +1,27 @@
 -- `analysis::choice_verdict` meets its contract. Assumes nothing.
-use native.Mathlib.Omega.{arith}
-use borrow.Author.Tests.{ne-eqb}
-use mathlib.Core.Path.{sym, _∙_}
-use Rattle.sheet.proofs.Cases.{good-table}
-use Rattle.analysis.specs.Answers.{passingOf, choiceAnswer}
+use Prim.Native.Nat.{ℕ}
+use mathlib.Core.Path.{sym, ap, _∙_}
+use Rattle.sheet.specs.Rules.{tableRefusal}
+use Rattle.sheet.proofs.Turns.{none-of}
+use Rattle.analysis.specs.Tasks.{tasksOf}
+use Rattle.analysis.specs.Response.{passes}
+use Rattle.analysis.specs.Answers.{verdictOf, choiceRefusal, choiceAnswer}
 use borrow.Author.Needs.{needs}
 use Rattle.analysis.proofs.choice_verdict.Statement.{statement}
 use Rattle.analysis.proofs.choice_verdict.Tie as tie
 
-judge-table-requires : tie.Need-judge-table-requires
-judge-table-requires c κs = search needs
+judge-choice-requires : tie.Need-judge-choice-requires
+judge-choice-requires c κs = search needs
+
+verdict-of-requires : tie.Need-verdict-of-requires
+unfolding choiceRefusal
+verdict-of-requires c κs = λ good. none-of (tableRefusal (c .before .args .table)) _ (sym (c .judge-choice .ensures) ∙ good) .0
 
 returns : tie.Need-returns
-unfolding choiceAnswer passingOf
+unfolding choiceAnswer
 returns c =
-    let refused = c .if1 .taken in
-    let given = c .before .judge-table .ensures in
-    rw (← given) (simp (ne-eqb _ 0 refused))
-
-passes-requires : tie.Need-passes-requires
-passes-requires c κs =
-    let good = sym (c .before .judge-table .ensures) ∙ c .if1 .left in
-    let some = good-table (c .before .before .args .table) good .interval in
-    (good, omega arith)
-
-returns-2 : tie.Need-returns-2
-unfolding choiceAnswer passingOf
-returns-2 c =
-    let good = sym (c .before .before .judge-table .ensures) ∙ c .before .if1 .left in
-    simp (good, c .passes .ensures)
+    let given = c .before .before .args in
+    c .verdict-of .ensures ∙ ap (λ (r : ℕ). verdictOf r (passes (tasksOf (given .table) (given .table .interval) (given .choice)))) (c .before .judge-choice .ensures)
 
 pub choice-verdict-spec : {M : Type 1} → statement M
-choice-verdict-spec = tie.close (tie.spec judge-table-requires returns passes-requires returns-2)
+choice-verdict-spec = tie.close (tie.spec judge-choice-requires verdict-of-requires returns)

@@ -1,7 +1,7 @@
 -- `analysis::least_interval` meets its contract. Assumes nothing.
 use mathlib.Core.Path.{sym, _∙_}
 use borrow.Author.Tests.{ne-eqb}
-use Rattle.analysis.specs.Answers.{intervalOf, intervalAnswer}
+use Rattle.analysis.specs.Answers.{leastOf, intervalAnswer}
 use borrow.Author.Needs.{needs}
 use Rattle.analysis.proofs.least_interval.Statement.{statement}
 use Rattle.analysis.proofs.least_interval.Tie as tie
@@ -10,7 +10,7 @@ judge-table-requires : tie.Need-judge-table-requires
 judge-table-requires c κs = search needs
 
 returns : tie.Need-returns
-unfolding intervalAnswer intervalOf
+unfolding intervalAnswer leastOf
 returns c =
     let given = c .before .judge-table .ensures in
     rw (← given) (simp (ne-eqb _ 0 (c .if1 .taken)))
@@ -19,14 +19,14 @@ least-requires : tie.Need-least-requires
 least-requires c κs = sym (c .before .judge-table .ensures) ∙ c .if1 .left
 
 returns-2 : tie.Need-returns-2
-unfolding intervalAnswer intervalOf
+unfolding intervalAnswer leastOf
 returns-2 c =
     let good = sym (c .before .before .before .judge-table .ensures) ∙ c .before .before .if1 .left in
     let least = sym (c .before .least .ensures) ∙ c .if2 .taken in
     simp (good, least)
 
 returns-3 : tie.Need-returns-3
-unfolding intervalAnswer intervalOf
+unfolding intervalAnswer leastOf
 returns-3 c =
     let good = sym (c .before .before .before .judge-table .ensures) ∙ c .before .before .if1 .left in
     simp (good, ← c .before .least .ensures, ne-eqb _ 0 (c .if2 .left))

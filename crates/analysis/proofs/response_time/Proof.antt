@@ -9,8 +9,8 @@ use borrow.Author.Needs.{needs}
 use Rattle.analysis.proofs.response_time.Statement.{statement}
 use Rattle.analysis.proofs.response_time.Tie as tie
 
-judge-place-requires : tie.Need-judge-place-requires
-judge-place-requires c κs = search needs
+judge-record-place-requires : tie.Need-judge-record-place-requires
+judge-record-place-requires c κs = search needs
 
 no-entry-requires : tie.Need-no-entry-requires
 no-entry-requires c κs = search needs
@@ -19,7 +19,7 @@ returns : tie.Need-returns
 unfolding timedAnswer
 returns c =
     let refused = c .before .if1 .taken in
-    let given = c .before .before .judge-place .ensures in
+    let given = c .before .before .judge-record-place .ensures in
     rw (← given) (simp (ne-eqb _ 0 refused, c .no-entry .ensures))
 
 own-choice-requires : tie.Need-own-choice-requires
@@ -29,16 +29,16 @@ entry-requires : tie.Need-entry-requires
 unfolding timedRefusal
 entry-requires c κs =
     let table = c .before .before .before .before .args .table in
-    let good = none-of (tableRefusal table) _ (sym (c .before .before .before .judge-place .ensures) ∙ c .before .before .if1 .left) in
+    let good = none-of (tableRefusal table) _ (sym (c .before .before .before .judge-record-place .ensures) ∙ c .before .before .if1 .left) in
     (good .0, place-below _ _ (good .1))
 
 returns-2 : tie.Need-returns-2
 unfolding timedAnswer
 returns-2 c =
-    let good = sym (c .before .before .before .before .judge-place .ensures) ∙ c .before .before .before .if1 .left in
+    let good = sym (c .before .before .before .before .judge-record-place .ensures) ∙ c .before .before .before .if1 .left in
     simp (good, c .entry .ensures, c .before .own-choice .ensures)
 
 pub response-time-spec : {M : Type 1} → statement M
 response-time-spec =
     tie.close
-    (tie.spec judge-place-requires no-entry-requires returns own-choice-requires entry-requires returns-2)
+    (tie.spec judge-record-place-requires no-entry-requires returns own-choice-requires entry-requires returns-2)

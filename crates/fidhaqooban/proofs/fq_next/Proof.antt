@@ -20,8 +20,8 @@ returns : tie.Need-returns
 unfolding nextNumber nextRefusal
 returns c = handed (c .answer .result) (c .answer .ok) ∙ c .answer .ensures ∙ first-refused _ _ (c .before .before .before .read .ensures) (c .before .if1 .taken) _ _
 
-entries-requires : tie.Need-entries-requires
-entries-requires c κs = search needs
+entries-of-requires : tie.Need-entries-of-requires
+entries-of-requires c κs = search needs
 
 step-requires : tie.Need-step-requires
 step-requires c κs = search needs
@@ -35,8 +35,8 @@ answer-requires-2 c κs = search needs
 enum-told : tie.Need-enum-told
 enum-told c = search needs
 
-choice-requires : tie.Need-choice-requires
-choice-requires c κs =
+choice-of-requires : tie.Need-choice-of-requires
+choice-of-requires c κs =
     let step = c .before .before .before .before in
     step-small _ _ (step .before .before .before .before .before .read .ensures) (step .before .before .before .if1 .left) _ _ (step .step .ensures) (c .before .before .enum-told .given .1)
 
@@ -57,21 +57,21 @@ unfolding arrivalAnswered
 returns-2 c =
     let step = c .before .before .before .before in
     handed (c .answer2 .result) (c .answer2 .ok) ∙ c .answer2 .ensures ∙ ap (λ (a : Arrival). arrivalAnswered a (step .step .result .walk .entries)) (sym (c .before .before .arrival .given .1))
-    ∙ next-is _ _ (step .before .before .before .before .before .read .ensures) (step .before .before .before .if1 .left) _ _ _ (step .before .entries .ensures) (step .step .ensures)
+    ∙ next-is _ _ (step .before .before .before .before .before .read .ensures) (step .before .before .before .if1 .left) _ _ _ (step .before .entries-of .ensures) (step .step .ensures)
 
 returns-3 : tie.Need-returns-3
 unfolding arrivalAnswered
 returns-3 c =
     let step = c .before .before .before .before .before .before in
-    handed (c .answer3 .result) (c .answer3 .ok) ∙ c .answer3 .ensures ∙ ap (answerOf 0) (c .before .choice .ensures) ∙ ap (λ (a : Arrival). arrivalAnswered a (step .step .result .walk .entries)) (sym (c .before .before .before .before .enum-told .given .1))
-    ∙ next-is _ _ (step .before .before .before .before .before .read .ensures) (step .before .before .before .if1 .left) _ _ _ (step .before .entries .ensures) (step .step .ensures)
+    handed (c .answer3 .result) (c .answer3 .ok) ∙ c .answer3 .ensures ∙ ap (answerOf 0) (c .before .choice-of .ensures) ∙ ap (λ (a : Arrival). arrivalAnswered a (step .step .result .walk .entries)) (sym (c .before .before .before .before .enum-told .given .1))
+    ∙ next-is _ _ (step .before .before .before .before .before .read .ensures) (step .before .before .before .if1 .left) _ _ _ (step .before .entries-of .ensures) (step .step .ensures)
 
 returns-4 : tie.Need-returns-4
 unfolding arrivalAnswered
 returns-4 c =
     let step = c .before .before .before in
     handed (c .answer4 .result) (c .answer4 .ok) ∙ c .answer4 .ensures ∙ ap (λ (a : Arrival). arrivalAnswered a (step .step .result .walk .entries)) (sym (c .before .enum-told2 .given .1))
-    ∙ next-is _ _ (step .before .before .before .before .before .read .ensures) (step .before .before .before .if1 .left) _ _ _ (step .before .entries .ensures) (step .step .ensures)
+    ∙ next-is _ _ (step .before .before .before .before .before .read .ensures) (step .before .before .before .if1 .left) _ _ _ (step .before .entries-of .ensures) (step .step .ensures)
 
 pub fq-next-spec : {M : Type 1} → statement M
 fq-next-spec =
@@ -80,12 +80,12 @@ fq-next-spec =
     read-requires
     answer-requires
     returns
-    entries-requires
+    entries-of-requires
     step-requires
     enum-known-arrival
     answer-requires-2
     enum-told
-    choice-requires
+    choice-of-requires
     cast-answer
     answer-requires-3
     enum-told-2

@@ -22,15 +22,15 @@ returns c = handed (c .answer .result) (c .answer .ok) ∙ c .answer .ensures �
 response-time-requires : tie.Need-response-time-requires
 response-time-requires c κs = search needs
 
-time-requires : tie.Need-time-requires
-time-requires c κs = search needs
+time-of-requires : tie.Need-time-of-requires
+time-of-requires c κs = search needs
 
 answer-requires-2 : tie.Need-answer-requires-2
 answer-requires-2 c κs = search needs
 
 returns-2 : tie.Need-returns-2
 returns-2 c =
-    handed (c .answer2 .result) (c .answer2 .ok) ∙ c .answer2 .ensures ∙ ap (answerOf _) (c .before .time .ensures .0)
+    handed (c .answer2 .result) (c .answer2 .ok) ∙ c .answer2 .ensures ∙ ap (answerOf _) (c .before .time-of .ensures .0)
     ∙ response-is _ _ (c .before .before .before .before .before .before .before .read .ensures) (c .before .before .before .before .before .if1 .left) _ _ (c .before .before .before .response-time .ensures)
 
 pub fq-response-spec : {M : Type 1} → statement M
@@ -41,6 +41,6 @@ fq-response-spec =
     answer-requires
     returns
     response-time-requires
-    time-requires
+    time-of-requires
     answer-requires-2
     returns-2)

@@ -10,8 +10,8 @@ use borrow.Author.Needs.{needs}
 use Rattle.report.proofs.put_line.Statement.{statement}
 use Rattle.report.proofs.put_line.Tie as tie
 
-size-requires : tie.Need-size-requires
-size-requires c κs = search needs
+text-size-requires : tie.Need-text-size-requires
+text-size-requires c κs = search needs
 
 fits-requires : tie.Need-fits-requires
 fits-requires c κs = search needs
@@ -20,16 +20,16 @@ copy-requires : tie.Need-copy-requires
 copy-requires c κs =
     let sized = c .before .before .before in
     let given = sized .before .before .before .args in
-    let room : leb (given .at + sized .size .result) (length (given .out .now)) ≡ true = cc in
-    let fits = leb-true (given .at + sized .size .result) (length (given .out .now)) room in
+    let room : leb (given .at + sized .text-size .result) (length (given .out .now)) ≡ true = cc in
+    let fits = leb-true (given .at + sized .text-size .result) (length (given .out .now)) room in
     (search needs, fits)
 
 add-result : tie.Need-add-result
 add-result c =
     let sized = c .before .before .before .before .before .before in
     let given = sized .before .before .before .args in
-    let room : leb (given .at + sized .size .result) (length (given .out .now)) ≡ true = cc in
-    let fits = leb-true (given .at + sized .size .result) (length (given .out .now)) room in
+    let room : leb (given .at + sized .text-size .result) (length (given .out .now)) ≡ true = cc in
+    let fits = leb-true (given .at + sized .text-size .result) (length (given .out .now)) room in
     search needs
 
 same-length : tie.Need-same-length
@@ -40,8 +40,8 @@ returns c =
     let sized = c .before .before .before .before .before .before in
     let given = sized .before .before .before .args in
     let long : length (given .line .bytes) ≡ 40 = search needs in
-    let room : leb (given .at + sized .size .result) (length (given .out .now)) ≡ true = cc in
-    let put = put-fits (given .line) 40 _ long (sized .size .ensures) (given .out .now) (given .at) room in
+    let room : leb (given .at + sized .text-size .result) (length (given .out .now)) ≡ true = cc in
+    let put = put-fits (given .line) 40 _ long (sized .text-size .ensures) (given .out .now) (given .at) room in
     (put .0, c .before .before .copy .ensures ∙ put .1)
 
 returns-2 : tie.Need-returns-2
@@ -49,10 +49,10 @@ returns-2 c =
     let sized = c .before .before in
     let given = sized .before .before .before .args in
     let long : length (given .line .bytes) ≡ 40 = search needs in
-    let short : leb (given .at + sized .size .result) (length (given .out .now)) ≡ false = cc in
-    put-nothing (given .line) 40 _ long (sized .size .ensures) (given .out .now) (given .at) short
+    let short : leb (given .at + sized .text-size .result) (length (given .out .now)) ≡ false = cc in
+    put-nothing (given .line) 40 _ long (sized .text-size .ensures) (given .out .now) (given .at) short
 
 pub put-line-spec : {M : Type 1} → statement M
 put-line-spec =
     tie.close
-    (tie.spec size-requires fits-requires copy-requires add-result same-length returns returns-2)
+    (tie.spec text-size-requires fits-requires copy-requires add-result same-length returns returns-2)

@@ -1,36 +1,52 @@
 -- `sheet::judge` meets its contract: the header's refusal, then the records'. Assumes nothing.
-use mathlib.Core.Path.{_≡_, sym, _∙_}
-use Rattle.sheet.specs.Rules.{sheetRefusal, headerRefusal}
+use Prim.Native.Nat.{ℕ}
+use mathlib.Core.Path.{_≡_, sym, ap, ap₂, _∙_}
+use mathlib.Core.List.{List}
+use Rattle.sheet.specs.declared.Record.{Record}
+use Rattle.sheet.specs.Layout.{countOf, sheetRecord, recordAt, room}
+use Rattle.sheet.specs.Rules.{headerRefusal, recordsRefusal, sheetRefusal}
 use Rattle.sheet.proofs.Turns.{first-of, next-of}
+use Rattle.sheet.proofs.Agree.{records-agree, room-at}
 use Rattle.sheet.proofs.Cases.{GoodHeader, good-header}
 use borrow.Author.Needs.{needs}
 use Rattle.sheet.proofs.judge.Statement.{statement}
 use Rattle.sheet.proofs.judge.Tie as tie
+
+-- a header that was let through is good
+passed : (c : tie.Else1) → headerRefusal (c .before .before .before .args .sheet .now) ≡ 0
+passed c = sym (c .before .judge-header .ensures) ∙ c .if1 .left
+
+good : (c : tie.Else1) → GoodHeader (c .before .before .before .args .sheet .now)
+good c = good-header (c .before .before .before .args .sheet .now) (passed c)
 
 judge-header-requires : tie.Need-judge-header-requires
 judge-header-requires c κs = search needs
 
 returns : tie.Need-returns
 unfolding sheetRefusal
-returns c = c .before .judge-header .ensures ∙ sym (first-of _ _ (λ e. c .if1 .taken (cc)))
+returns c =
+    let said = c .before .judge-header .ensures in
+    said ∙ sym (first-of _ _ (λ e. c .if1 .taken (said ∙ e)))
 
 count-requires : tie.Need-count-requires
-count-requires c κs = good-header (c .before .before .before .args .sheet .now) (cc) .long
+count-requires c κs = good c .long
 
-judge-parts-requires : tie.Need-judge-parts-requires
-judge-parts-requires c κs =
-    let sheet = c .before .before .before .before .args .sheet .now in
-    let good : GoodHeader sheet = good-header sheet (cc) in
-    (search needs, cc)
+records-of-requires : tie.Need-records-of-requires
+records-of-requires c κs = rw (c .count .ensures) (good (c .before) .count .1, good (c .before) .size)
+
+judge-records-requires : tie.Need-judge-records-requires
+judge-records-requires c κs = rw (c .before .count .ensures) (good (c .before .before) .count .1)
 
 returns-2 : tie.Need-returns-2
 unfolding sheetRefusal
 returns-2 c =
-    let sheet = c .before .before .before .before .before .args .sheet .now in
-    let good : headerRefusal sheet ≡ 0 = cc in
-    cc (next-of _ good)
+    let counted = c .before .before in
+    let sheet = counted .before .before .before .before .args .sheet .now in
+    c .judge-records .ensures ∙ ap₂ (λ (n : ℕ) (records : List Record). recordsRefusal n (recordAt records)) (counted .count .ensures) (c .before .records-of .ensures ∙ ap (room (sheetRecord sheet)) (counted .count .ensures))
+    ∙ records-agree (countOf sheet) (room-at (sheetRecord sheet) (countOf sheet) (good (counted .before) .count .1))
+    ∙ sym (next-of _ (passed (counted .before)))
 
 pub judge-spec : {M : Type 1} → statement M
 judge-spec =
     tie.close
-    (tie.spec judge-header-requires returns count-requires judge-parts-requires returns-2)
+    (tie.spec judge-header-requires returns count-requires records-of-requires judge-records-requires returns-2)

@@ -1,6 +1,6 @@
 -- `sheet::record_part` meets its contract: the part is the record's own place in the sheet. Assumes nothing.
 use Prim.Native.Nat.{_+_, _*_, _<_}
-use mathlib.Core.Path.{_≡_, refl}
+use mathlib.Core.Path.{_≡_, refl, sym, _∙_}
 use native.Mathlib.Nat.{add-zero, add-comm}
 use borrow.Author.Tests.{ne-eqb}
 use native.Mathlib.Omega.{arith}
@@ -11,11 +11,15 @@ use borrow.Author.Needs.{needs}
 use Rattle.sheet.proofs.record_part.Statement.{statement}
 use Rattle.sheet.proofs.record_part.Tie as tie
 
--- a place that was not refused is below 8
+-- a place that was let through is not refused
+passed : (c : tie.Else1) → placeRefusal (c .before .before .before .args .sheet .now) (c .before .before .before .args .place) ≡ 0
+passed c = sym (c .before .judge-place .ensures) ∙ c .if1 .left
+
+-- and so it is below 8
 low : (c : tie.Else1) → c .before .before .before .args .place < 8
 low c =
     let given = c .before .before .before in
-    let good = good-place (given .args .sheet .now) (given .args .place) (cc) in
+    let good = good-place (given .args .sheet .now) (given .args .place) (passed c) in
     omega (arith, good .1, good .0 .count .1)
 
 judge-place-requires : tie.Need-judge-place-requires
@@ -28,7 +32,7 @@ returns : tie.Need-returns
 unfolding partStart partBytes
 returns c =
     let given = c .before .before .before .before in
-    let refused = ne-eqb (placeRefusal (given .args .sheet .now) (given .args .place)) 0 (λ e. c .before .if1 .taken (cc)) in
+    let refused = ne-eqb (placeRefusal (given .args .sheet .now) (given .args .place)) 0 (λ e. c .before .if1 .taken (c .before .before .judge-place .ensures ∙ e)) in
     record { block = refl; offset = simp (refused, add-zero); content = simp refused }
 
 mul-start : tie.Need-mul-start
@@ -49,14 +53,14 @@ part-result-start c = search needs
 part-result-end : tie.Need-part-result-end
 part-result-end c =
     let given = c .before .before .before in
-    let good = good-place (given .args .sheet .now) (given .args .place) (cc) in
+    let good = good-place (given .args .sheet .now) (given .args .place) (passed c) in
     part-end (given .args .sheet .now) _ _ (good .0 .size) (good .1)
 
 returns-2 : tie.Need-returns-2
 unfolding partStart partBytes
 returns-2 c =
     let given = c .before .before .before .before in
-    let good : placeRefusal (given .args .sheet .now) (given .args .place) ≡ 0 = cc in
+    let good = passed (c .before) in
     record { block = refl; offset = simp good (add-comm (3 + 9 * given .args .place) (given .args .sheet .ptr .1)); content = simp good (part-at _ _) }
 
 pub record-part-spec : {M : Type 1} → statement M

@@ -1,13 +1,18 @@
 -- `sheet::write` meets its contract: refused, the output is as it was; else it starts with the sheet. Assumes nothing.
 use Prim.Native.Nat.{ℕ, _<_}
-use mathlib.Core.Path.{sym, subst, _∙_}
+use mathlib.Core.Path.{_≡_, sym, subst, _∙_}
 use lib.ListN.{length}
 use borrow.Author.Tests.{ne-eqb}
+use Rattle.sheet.specs.Rules.{tableRefusal}
 use Rattle.sheet.specs.Answers.{writeAnswer, writeLeaves}
 use Rattle.sheet.proofs.Cases.{write-refused, write-short, write-fits}
 use borrow.Author.Needs.{needs}
 use Rattle.sheet.proofs.write.Statement.{statement}
 use Rattle.sheet.proofs.write.Tie as tie
+
+-- a table that was let through is good
+good : (c : tie.Else1) → tableRefusal (c .before .before .before .args .table) ≡ 0
+good c = sym (c .before .judge-table .ensures) ∙ c .if1 .left
 
 judge-table-requires : tie.Need-judge-table-requires
 judge-table-requires c κs = search needs
@@ -17,7 +22,7 @@ unfolding writeAnswer writeLeaves
 returns c =
     let given = c .before .before .before in
     let refused = c .if1 .taken in
-    let refusal = write-refused (given .args .table) (given .args .out .now) (λ e. refused (cc)) ∙ sym (c .before .judge-table .ensures) in
+    let refusal = write-refused (given .args .table) (given .args .out .now) (λ e. refused (c .before .judge-table .ensures ∙ e)) ∙ sym (c .before .judge-table .ensures) in
     (simp (refusal, ne-eqb _ 0 refused), simp (refusal, ne-eqb _ 0 refused))
 
 size-requires : tie.Need-size-requires
@@ -28,14 +33,16 @@ unfolding writeAnswer writeLeaves
 returns-2 c =
     let given = c .before .before .before .before .before in
     let short = subst (λ (n : ℕ). length (given .args .out .now) < n) (c .before .size .ensures) (c .if2 .taken) in
-    let refusal = write-short (given .args .table) (given .args .out .now) (cc) short in
+    let refusal = write-short (given .args .table) (given .args .out .now) (good (c .before .before)) short in
     (simp refusal, simp refusal)
 
 put-sheet-requires : tie.Need-put-sheet-requires
-put-sheet-requires c κs = search needs
+put-sheet-requires c κs =
+    let sized = c .before .before in
+    (good (sized .before), rw (sized .size .ensures) at (c .before .if2 .left))
 
 same-length : tie.Need-same-length
-same-length c = search needs
+same-length c = c .before .before .put-sheet .kept .0
 
 returns-3 : tie.Need-returns-3
 unfolding writeAnswer writeLeaves
@@ -43,7 +50,7 @@ returns-3 c =
     let sized = c .before .before .before .before .before in
     let given = sized .before .before .before .before in
     let fits = rw (sized .size .ensures) at (c .before .before .before .before .if2 .left) in
-    let refusal = write-fits (given .args .table) (given .args .out .now) (cc) fits in
+    let refusal = write-fits (given .args .table) (given .args .out .now) (good (sized .before)) fits in
     (simp (refusal, sized .size .ensures), simp refusal (c .before .before .put-sheet .ensures))
 
 pub write-spec : {M : Type 1} → statement M

@@ -15,10 +15,10 @@ use Rattle.analysis.proofs.response.entries.Statement.{statement}
 use Rattle.analysis.proofs.response.entries.Tie as tie
 
 abbrev Inv-loop : tie.InvT-loop
-Inv-loop table count choice entries₀ place₀ entries place = (place ≤ count) × (entries ≡ filledBelow (entryOf (tasksOf table (table .interval) choice)) place (replicate 8 noEntry))
+Inv-loop table count choice filled₀ place₀ filled place = (place ≤ count) × (filled ≡ filledBelow (entryOf (tasksOf table (table .interval) choice)) place (replicate 8 noEntry))
 
 abbrev μ-loop : tie.MeasureT-loop
-μ-loop table count choice entries₀ place₀ entries place = count - place
+μ-loop table count choice filled₀ place₀ filled place = count - place
 
 cast-count : tie.Need-cast-count Inv-loop μ-loop
 cast-count c = search needs
@@ -37,11 +37,11 @@ entry-requires : tie.Need-entry-requires Inv-loop μ-loop
 entry-requires c κs =
     (c .before .before .before .before .before .before .pre, c .loop-test .taken)
 
-mul-entries : tie.Need-mul-entries Inv-loop μ-loop
-mul-entries c = search needs
+mul-filled : tie.Need-mul-filled Inv-loop μ-loop
+mul-filled c = search needs
 
-array-set-from-entries : tie.Need-array-set-from-entries Inv-loop μ-loop
-array-set-from-entries c =
+array-set-from-filled : tie.Need-array-set-from-filled Inv-loop μ-loop
+array-set-from-filled c =
     omega (arith, good-table (c .before .before .before .before .before .before .before .args .table) (c .before .before .before .before .before .before .before .pre) .count .1)
 
 add-place : tie.Need-add-place Inv-loop μ-loop
@@ -77,8 +77,8 @@ entries-spec =
     no-entry-requires
     loop-holds
     entry-requires
-    mul-entries
-    array-set-from-entries
+    mul-filled
+    array-set-from-filled
     add-place
     loop-less
     loop-again

@@ -1,15 +1,17 @@
--- `analysis::response::least` meets its contract: at no smaller interval does the table pass. Assumes nothing.
+-- `analysis::response::least` meets its contract: at no smaller interval does the table pass, 1 among them by the law. Assumes nothing.
 use Prim.Native.Nat.{ℕ, _+_, _-_, _≤_}
 use mathlib.Core.Path.{_≡_, sym, ap, subst, _∙_}
-use mathlib.Core.Bool.{Bool}
+use mathlib.Core.Bool.{Bool, false}
 use mathlib.Core.List.{List}
 use native.Mathlib.Omega.{arith}
 use Rattle.sheet.specs.declared.Table.{Table}
-use Rattle.analysis.specs.Tasks.{tasksOf}
+use Rattle.analysis.specs.Tasks.{tasksOf, ownChoice}
 use Rattle.analysis.specs.Search.{firstFrom}
 use Rattle.analysis.specs.Response.{passes}
 use Rattle.analysis.specs.Answers.{leastInterval}
 use Rattle.analysis.proofs.Climbing.{Fails, fails-more, first-found, first-none}
+use Rattle.analysis.proofs.Choice.{own-within}
+use Rattle.analysis.proofs.Demands.{fails-at-1}
 use borrow.Author.Needs.{needs}
 use Rattle.analysis.proofs.response.least.Statement.{statement}
 use Rattle.analysis.proofs.response.least.Tie as tie
@@ -28,7 +30,14 @@ own-choice-requires : tie.Need-own-choice-requires Inv-loop μ-loop
 own-choice-requires c κs = search needs
 
 loop-holds : tie.Need-loop-holds Inv-loop μ-loop
-loop-holds c = (search needs, search needs, λ k low high. absurd (omega arith))
+loop-holds c =
+    let given = c .before .before in
+    let first = fails-at-1 (given .args .table) (given .pre) (ownChoice (given .args .table .records)) (own-within (given .args .table) (given .pre)) in
+    let begun : passing (given .args .table) (c .own-choice .result) 1 ≡ false = ap (λ (choice : List ℕ). passing (given .args .table) choice 1) (c .own-choice .ensures) ∙ first in (
+      search needs,
+      search needs,
+      λ k low high. let only : k ≡ 1 = omega arith in ap (passing (given .args .table) (c .own-choice .result)) only ∙ begun,
+    )
 
 passes-requires : tie.Need-passes-requires Inv-loop μ-loop
 passes-requires c κs =

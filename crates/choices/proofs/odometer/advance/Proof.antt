@@ -1,39 +1,58 @@
 -- `choices::odometer::advance` meets its contract: no choice passed over passes. Assumes nothing.
 use Prim.Native.Nat.{ℕ, _<_}
 use mathlib.Core.Path.{_≡_, refl, sym, ap, subst, _∙_}
-use mathlib.Core.Bool.{true, false, _||_}
+use mathlib.Core.Bool.{true}
 use mathlib.Core.List.{List}
 use lib.ListN.{length}
-use Rattle.choices.proofs.Onward.{next-length}
+use Rattle.analysis.specs.Allowed.{levelsOf}
+use Rattle.analysis.proofs.Choice.{length-levels}
+use Rattle.choices.proofs.Onward.{next-allowed, next-length}
 use Rattle.choices.specs.declared.Found.{Found}
 use Rattle.analysis.specs.Answers.{choiceAnswer}
 use Rattle.analysis.specs.declared.Passing.{Passing}
+use Rattle.sheet.specs.declared.Table.{Table}
 use Rattle.sheet.proofs.Cases.{good-table}
-use Rattle.choices.specs.Choices.{levelsOf, choicesOf, passingOf}
-use Rattle.choices.specs.Order.{allZero, allAllowed, afterOf}
+use Rattle.choices.specs.Choices.{choicesOf, passingOf}
+use Rattle.choices.specs.Order.{afterOf}
 use Rattle.choices.specs.Stepping.{foundIn, nextOf}
-use Rattle.choices.proofs.Advancing.{passesWith, good-start, length-levels, still-allowed, none-left, fewer, passing-next, failing-next, verdict-passes}
+use Rattle.choices.proofs.Advancing.{passesWith, starts, good-start, still-allowed, none-left, fewer, passing-next, failing-next, verdict-passes}
 use borrow.Author.Needs.{needs}
 use Rattle.choices.proofs.odometer.advance.Statement.{statement}
 use Rattle.choices.proofs.odometer.advance.Tie as tie
 
 abbrev Inv-loop : tie.InvT-loop
-Inv-loop table start levels choice₀ choice = (length choice ≡ 8) × ((allZero choice || allAllowed (levelsOf table) choice) ≡ true) × (afterOf start (passingOf table) ≡ afterOf choice (passingOf table))
+Inv-loop table start levels choice₀ choice = (length choice ≡ 8) × (starts table choice ≡ true) × (afterOf start (passingOf table) ≡ afterOf choice (passingOf table))
 
 abbrev μ-loop : tie.MeasureT-loop
 μ-loop table start levels choice₀ choice = length (afterOf choice (choicesOf (levelsOf table)))
 
 -- the step taken is from the table's own levels
 went : (c : tie.After-next Inv-loop μ-loop) → c .next .result ≡ nextOf (levelsOf (c .before .before .before .args .table)) (c .before .loop .choice)
-went c = c .next .ensures ∙ ap (λ (levels : List ℕ). nextOf levels (c .before .loop .choice)) (c .before .before .levels .ensures)
+went c = c .next .ensures ∙ ap (λ (levels : List ℕ). nextOf levels (c .before .loop .choice)) (c .before .before .levels-of .ensures)
 
-levels-requires : tie.Need-levels-requires Inv-loop μ-loop
-levels-requires c κs =
-    good-table (c .args .table) (good-start (c .args .table) (c .args .start) (c .pre) .0) .count .1
+-- the table asked about, and the choice it is asked about
+abbrev tableAsked : tie.After-choice-verdict Inv-loop μ-loop → Table
+tableAsked c = c .before .before .before .before .before .before .args .table
+
+abbrev choiceAsked : tie.After-choice-verdict Inv-loop μ-loop → List ℕ
+choiceAsked c = nextOf (levelsOf (tableAsked c)) (c .before .before .before .before .loop .choice) .choice
+
+-- the verdict asked for is that choice's own
+asked : (c : tie.After-choice-verdict Inv-loop μ-loop) → c .choice-verdict .result .passes ≡ passesWith (tableAsked c) (choiceAsked c)
+asked c =
+    let given = c .before .before .before .before .before .before in
+    let at = c .before .before .before .before .loop in
+    ap (λ (p : Passing). p .passes) (c .choice-verdict .ensures)
+    ∙ ap (λ (f : Found). choiceAnswer (tableAsked c) (f .choice) .passes) (went (c .before .before .before))
+    ∙ verdict-passes (tableAsked c) (good-start (tableAsked c) (given .args .start) .0 (given .pre) .0) (choiceAsked c) (next-allowed (levelsOf (tableAsked c)) (at .choice) (at .inv .1))
+
+levels-of-requires : tie.Need-levels-of-requires Inv-loop μ-loop
+levels-of-requires c κs =
+    good-table (c .args .table) (good-start (c .args .table) (c .args .start) .0 (c .pre) .0) .count .1
 
 loop-holds : tie.Need-loop-holds Inv-loop μ-loop
 loop-holds c =
-    (search needs, good-start (c .before .args .table) (c .before .args .start) (c .before .pre) .1, refl)
+    (search needs, good-start (c .before .args .table) (c .before .args .start) .0 (c .before .pre) .1, refl)
 
 next-requires : tie.Need-next-requires Inv-loop μ-loop
 next-requires c κs = search needs
@@ -45,20 +64,18 @@ returns : tie.Need-returns Inv-loop μ-loop
 unfolding foundIn
 returns c =
     let given = c .before .before .before .before .before .before .before in
-    let known = good-start (given .args .table) (given .args .start) (given .pre) in
+    let known = good-start (given .args .table) (given .args .start) .0 (given .pre) in
     let at = c .before .before .before .before .before .loop in
     let same = went (c .before .before .before .before) in
     let there = ap (λ (f : Found). f .«is_there») (sym same) ∙ c .before .before .before .if1 .taken in
-    let later = nextOf (levelsOf (given .args .table)) (at .choice) .choice in
-    let said : passesWith (given .args .table) later ≡ true =
-    sym (verdict-passes (given .args .table) (known .0) later) ∙ ap (λ (f : Found). choiceAnswer (given .args .table) (f .choice) .passes) (sym same) ∙ sym (ap (λ (p : Passing). p .passes) (c .before .choice-verdict .ensures)) ∙ c .if2 .taken in
+    let said = sym (asked (c .before)) ∙ c .if2 .taken in
     ap (λ (f : Found). record { «is_there» = true; choice = f .choice }) same
     ∙ sym (ap (foundIn (given .args .start)) (at .inv .2 ∙ passing-next (given .args .table) (known .0) (at .choice) (at .inv .0) (at .inv .1) there said))
 
 loop-less : tie.Need-loop-less Inv-loop μ-loop
 loop-less c =
     let given = c .before .before .before .before .before .before .before in
-    let known = good-start (given .args .table) (given .args .start) (given .pre) in
+    let known = good-start (given .args .table) (given .args .start) .0 (given .pre) in
     let at = c .before .before .before .before .before .loop in
     let same = went (c .before .before .before .before) in
     let there = ap (λ (f : Found). f .«is_there») (sym same) ∙ c .before .before .before .if1 .taken in
@@ -68,14 +85,12 @@ loop-less c =
 loop-again : tie.Need-loop-again Inv-loop μ-loop
 loop-again c =
     let given = c .before .before .before .before .before .before .before in
-    let known = good-start (given .args .table) (given .args .start) (given .pre) in
+    let known = good-start (given .args .table) (given .args .start) .0 (given .pre) in
     let at = c .before .before .before .before .before .loop in
     let same = went (c .before .before .before .before) in
     let there = ap (λ (f : Found). f .«is_there») (sym same) ∙ c .before .before .before .if1 .taken in
-    let later = nextOf (levelsOf (given .args .table)) (at .choice) .choice in
-    let said : passesWith (given .args .table) later ≡ false =
-    sym (verdict-passes (given .args .table) (known .0) later) ∙ ap (λ (f : Found). choiceAnswer (given .args .table) (f .choice) .passes) (sym same) ∙ sym (ap (λ (p : Passing). p .passes) (c .before .choice-verdict .ensures)) ∙ c .if2 .left in
-    subst (λ (f : Found). (length (f .choice) ≡ 8) × ((allZero (f .choice) || allAllowed (levelsOf (given .args .table)) (f .choice)) ≡ true) × (afterOf (given .args .start) (passingOf (given .args .table)) ≡ afterOf (f .choice) (passingOf (given .args .table)))) (sym same) (
+    let said = sym (asked (c .before)) ∙ c .if2 .left in
+    subst (λ (f : Found). (length (f .choice) ≡ 8) × (starts (given .args .table) (f .choice) ≡ true) × (afterOf (given .args .start) (passingOf (given .args .table)) ≡ afterOf (f .choice) (passingOf (given .args .table)))) (sym same) (
       next-length (levelsOf (given .args .table)) (at .choice) (at .inv .1) ∙ length-levels (given .args .table),
       still-allowed (given .args .table) (at .choice) (at .inv .1),
       at .inv .2 ∙ failing-next (given .args .table) (known .0) (at .choice) (at .inv .0) (at .inv .1) there said,
@@ -85,7 +100,7 @@ returns-2 : tie.Need-returns-2 Inv-loop μ-loop
 unfolding foundIn
 returns-2 c =
     let given = c .before .before .before .before in
-    let known = good-start (given .args .table) (given .args .start) (given .pre) in
+    let known = good-start (given .args .table) (given .args .start) .0 (given .pre) in
     let at = c .before .before .loop in
     let there = ap (λ (f : Found). f .«is_there») (sym (went (c .before))) ∙ c .if1 .left in
     sym (ap (foundIn (given .args .start)) (at .inv .2 ∙ none-left (given .args .table) (known .0) (at .choice) (at .inv .0) (at .inv .1) there))
@@ -96,7 +111,7 @@ advance-spec =
     (tie.spec
     Inv-loop
     μ-loop
-    levels-requires
+    levels-of-requires
     loop-holds
     next-requires
     choice-verdict-requires

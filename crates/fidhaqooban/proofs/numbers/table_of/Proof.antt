@@ -8,13 +8,13 @@ use Rattle.sheet.specs.declared.Record.{Record}
 use Rattle.sheet.specs.Places.{filledBelow}
 use Rattle.sheet.specs.Layout.{room}
 use Rattle.sheet.proofs.Turns.{fill-more}
-use Rattle.fidhaqooban.specs.Numbers.{recordFrom, tableFrom}
+use Rattle.fidhaqooban.specs.Numbers.{givenRecord, tableFrom}
 use borrow.Author.Needs.{needs}
 use Rattle.fidhaqooban.proofs.numbers.table_of.Statement.{statement}
 use Rattle.fidhaqooban.proofs.numbers.table_of.Tie as tie
 
 abbrev Inv-loop : tie.InvT-loop
-Inv-loop count interval numbers records₀ place₀ records place = (place ≤ 8) × (records ≡ filledBelow (recordFrom numbers) place (replicate 8 (recordFrom numbers 0)))
+Inv-loop count interval numbers records₀ place₀ records place = (place ≤ 8) × (records ≡ filledBelow (givenRecord numbers) place (replicate 8 (givenRecord numbers 0)))
 
 abbrev μ-loop : tie.MeasureT-loop
 μ-loop count interval numbers records₀ place₀ records place = 8 - place
@@ -44,13 +44,13 @@ loop-less c = search needs
 loop-again : tie.Need-loop-again Inv-loop μ-loop
 loop-again c =
     let turn = c .before in
-    (search needs, cc (fill-more (recordFrom (turn .before .before .before .before .args .numbers .now)) (turn .before .loop .place) (replicate 8 (recordFrom (turn .before .before .before .before .args .numbers .now) 0))))
+    (search needs, cc (fill-more (givenRecord (turn .before .before .before .before .args .numbers .now)) (turn .before .loop .place) (replicate 8 (givenRecord (turn .before .before .before .before .args .numbers .now) 0))))
 
 returns : tie.Need-returns Inv-loop μ-loop
 unfolding tableFrom room filledBelow
 returns c =
     let given = c .before .before .before .before in
-    let each = recordFrom (given .args .numbers .now) in
+    let each = givenRecord (given .args .numbers .now) in
     let all : c .before .loop .place ≡ 8 = omega arith in
     ap (λ (records : List Record). record { count = given .args .count; interval = given .args .interval; records = records })
     (c .before .loop .inv .1 ∙ ap (λ (n : ℕ). filledBelow each n (replicate 8 (each 0))) all)

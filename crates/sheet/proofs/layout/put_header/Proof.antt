@@ -1,8 +1,9 @@
--- `sheet::layout::put_header` meets its contract: three stores. Assumes nothing.
-use native.Mathlib.Omega.{arith}
+-- `sheet::layout::put_header` meets its contract: the count, then the interval. Assumes nothing.
+use mathlib.Core.Path.{sym, ap, _∙_}
 use lib.ListN.{length-set}
-use Rattle.sheet.proofs.Spelled.{header-put}
+use lib.Seq.{sets}
 use borrow.Author.Needs.{needs}
+use Rattle.sheet.proofs.Spelled.{header-put}
 use Rattle.sheet.proofs.layout.put_header.Statement.{statement}
 use Rattle.sheet.proofs.layout.put_header.Tie as tie
 
@@ -10,35 +11,19 @@ mul-out : tie.Need-mul-out
 mul-out c = search needs
 
 slice-write-out : tie.Need-slice-write-out
-slice-write-out c = omega arith
+slice-write-out c = search needs
 
-cast-out : tie.Need-cast-out
-cast-out c = search needs
-
-slice-write-out-2 : tie.Need-slice-write-out-2
-slice-write-out-2 c = simp length-set (omega arith)
-
-cast-out-2 : tie.Need-cast-out-2
-cast-out-2 c = search needs
-
-slice-write-out-3 : tie.Need-slice-write-out-3
-slice-write-out-3 c = simp length-set (omega arith)
+put-field-requires : tie.Need-put-field-requires
+put-field-requires c κs = search needs
 
 same-length : tie.Need-same-length
-same-length c = simp length-set
+same-length c = c .before .before .put-field .kept .0 ∙ simp length-set
 
 returns : tie.Need-returns
-returns c = rw (header-put (c .args .count) (c .args .interval) (search needs))
+returns c =
+    let given = c .before .before .before .before .before .args in
+    c .before .before .put-field .ensures ∙ ap (sets (given .out .now) 0) (sym (header-put (given .count) (given .interval) (search needs)))
 
 pub put-header-spec : {M : Type 1} → statement M
 put-header-spec =
-    tie.close
-    (tie.spec
-    mul-out
-    slice-write-out
-    cast-out
-    slice-write-out-2
-    cast-out-2
-    slice-write-out-3
-    same-length
-    returns)
+    tie.close (tie.spec mul-out slice-write-out put-field-requires same-length returns)

@@ -60,7 +60,10 @@ loop-again c =
     let so-far : length (joinedBelow bytes (at .place)) ≡ 9 * at .place = length-records (recordAt (given .args .t2)) (at .place) in (
       search needs,
       c .before .before .put-record .kept .0 ∙ at .inv .1,
-      cc (sets-after (given .args .out .now) (joinedBelow bytes (at .place)) (bytes (at .place)) 3 (3 + 9 * at .place) (ap (λ (n : ℕ). 3 + n) (sym so-far)), joined-more bytes (at .place)),
+      c .before .before .put-record .ensures
+          ∙ ap (λ (l : List ℕ). sets l (3 + 9 * at .place) (bytes (at .place))) (at .inv .2)
+          ∙ sets-after (given .args .out .now) (joinedBelow bytes (at .place)) (bytes (at .place)) 3 (3 + 9 * at .place) (ap (λ (n : ℕ). 3 + n) (sym so-far))
+          ∙ ap (sets (given .args .out .now) 3) (sym (joined-more bytes (at .place))),
     )
 
 same-length : tie.Need-same-length Inv-loop μ-loop
@@ -70,7 +73,7 @@ returns : tie.Need-returns Inv-loop μ-loop
 returns c =
     let given = c .before .before .before in
     let all : c .before .loop .place ≡ given .args .count = omega arith in
-    cc
+    c .before .loop .inv .2 ∙ ap (λ (n : ℕ). sets (given .args .out .now) 3 (joinedBelow (λ place. recordBytes (recordAt (given .args .t2) place)) n)) all
 
 pub put-records-spec : {M : Type 1} → statement M
 put-records-spec =

@@ -1,7 +1,11 @@
 -- `sheet::layout::put_sheet` meets its contract: the header, then the records. Assumes nothing.
-use mathlib.Core.Path.{_∙_}
+use Prim.Native.Nat.{ℕ}
+use mathlib.Core.Path.{ap, _∙_}
+use mathlib.Core.List.{List}
+use lib.Seq.{sets}
+use Rattle.sheet.specs.Places.{joinedBelow}
 use native.Mathlib.Omega.{arith}
-use Rattle.sheet.specs.Layout.{sizeOf}
+use Rattle.sheet.specs.Layout.{sizeOf, recordAt, recordBytes}
 use Rattle.sheet.proofs.Cases.{good-table}
 use Rattle.sheet.proofs.Stores.{sheet-stored}
 use Rattle.sheet.proofs.layout.put_sheet.Statement.{statement}
@@ -26,7 +30,10 @@ same-length c = c .before .before .put-records .kept .0 ∙ c .before .before .b
 returns : tie.Need-returns
 returns c =
     let given = c .before .before .before .before .before .before .before .before .before .before in
-    cc (sheet-stored (given .args .table) (given .args .out .now) (given .pre .1))
+    let table = given .args .table in
+    c .before .before .put-records .ensures
+    ∙ ap (λ (l : List ℕ). sets l 3 (joinedBelow (λ place. recordBytes (recordAt (table .records) place)) (table .count))) (c .before .before .before .before .before .before .put-header .ensures)
+    ∙ sheet-stored (given .args .table) (given .args .out .now) (given .pre .1)
 
 pub put-sheet-spec : {M : Type 1} → statement M
 put-sheet-spec = tie.close (tie.spec put-header-requires put-records-requires same-length returns)

@@ -1,4 +1,5 @@
 -- `sheet::layout::record_from` meets its contract: each field is the bytes that the layout gives it. Assumes nothing.
+use mathlib.Core.Path.{sym}
 use Rattle.sheet.proofs.Spelled.{record-spelled}
 use borrow.Author.Needs.{needs}
 use Rattle.sheet.proofs.layout.record_from.Statement.{statement}
@@ -24,8 +25,13 @@ shared-slice-read-t10 c = search needs
 
 returns : tie.Need-returns
 returns c =
-    let start = c .before .before .before .before .before .before .before in
-    cc (record-spelled (start .args .part .now) (start .pre) (λ k. c .shared-slice-known3 .given k .fits))
+    let fourth = c .before .before in
+    let third = fourth .before in
+    let second = third .before in
+    let first = second .before in
+    let start = first .before .before in
+    simp (first .field .ensures, second .field2 .ensures, third .field3 .ensures, fourth .field4 .ensures)
+    (sym (record-spelled (start .args .part .now) (start .pre) (λ k. c .shared-slice-known3 .given k .fits)))
 
 pub record-from-spec : {M : Type 1} → statement M
 record-from-spec =

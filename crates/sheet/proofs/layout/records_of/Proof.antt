@@ -1,10 +1,12 @@
 -- `sheet::layout::records_of` meets its contract: before each turn the records below the place are filled. Assumes nothing.
-use Prim.Native.Nat.{_≤_, _-_}
-use mathlib.Core.Path.{_≡_, ap, _∙_}
+use Prim.Native.Nat.{ℕ, _≤_, _-_}
+use mathlib.Core.Path.{_≡_, sym, ap, ap₂, _∙_}
 use native.Mathlib.Omega.{arith}
-use lib.ListN.{length, replicate}
+use mathlib.Core.List.{List}
+use lib.ListN.{length, set, replicate}
+use Rattle.sheet.specs.declared.Record.{Record}
 use Rattle.sheet.specs.Places.{filledBelow}
-use Rattle.sheet.specs.Layout.{sheetRecord, noRecord, room}
+use Rattle.sheet.specs.Layout.{recordOf, sheetRecord, noRecord, room}
 use Rattle.sheet.proofs.Turns.{fill-more}
 use Rattle.sheet.proofs.Parts.{part-at, part-end, part-nine}
 use borrow.Author.Needs.{needs}
@@ -66,15 +68,17 @@ unfolding sheetRecord
 loop-again c =
     let turn = c .before .before in
     let sheet = turn .before .before .before .before .args .sheet .now in
-    let place = turn .before .loop .place in
-    (search needs, cc (fill-more (sheetRecord sheet) place (replicate 8 noRecord), part-at sheet place))
+    let at = turn .before .loop in (
+      search needs,
+      ap₂ (λ (l : List Record) (r : Record). set l (at .place) r) (at .inv .1) (c .record-from .ensures ∙ ap recordOf (part-at sheet (at .place))) ∙ sym (fill-more (sheetRecord sheet) (at .place) (replicate 8 noRecord)),
+    )
 
 returns : tie.Need-returns Inv-loop μ-loop
 unfolding room
 returns c =
-    let done = c .before .loop .inv in
-    let all : c .before .loop .place ≡ c .before .before .before .before .args .count = omega arith in
-    cc
+    let given = c .before .before .before .before in
+    let all : c .before .loop .place ≡ given .args .count = omega arith in
+    c .before .loop .inv .1 ∙ ap (λ (n : ℕ). filledBelow (sheetRecord (given .args .sheet .now)) n (replicate 8 noRecord)) all
 
 pub records-of-spec : {M : Type 1} → statement M
 records-of-spec =

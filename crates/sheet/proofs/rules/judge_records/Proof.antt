@@ -1,7 +1,7 @@
 -- `sheet::rules::judge_records` meets its contract: the records below the place are good, and their priorities marked. Assumes nothing.
 use Prim.Native.Nat.{_-_}
-use mathlib.Core.Path.{_≡_, _∙_}
-use mathlib.Core.Bool.{false}
+use mathlib.Core.Path.{_≡_, sym, ap, _∙_}
+use mathlib.Core.Bool.{Bool, false}
 use lib.ListN.{getD}
 use Rattle.sheet.specs.Layout.{recordAt}
 use Rattle.sheet.specs.Rules.{refusalOf}
@@ -15,6 +15,18 @@ Inv-loop count records marks₀ place₀ marks place = Judging count (recordAt r
 
 abbrev μ-loop : tie.MeasureT-loop
 μ-loop count records marks₀ place₀ marks place = count - place
+
+-- what was answered is the refusal of the record at the place
+judged : (c : tie.After-judge-record Inv-loop μ-loop)
+    → let at = c .before .before .before .before .loop in
+    let given = c .before .before .before .before .before in
+    let task = recordAt (given .args .t1) (at .place) in
+    c .judge-record .result ≡ refusalOf (given .args .count) (getD (at .marks) (task .priority) false) task
+unfolding recordAt
+judged c =
+    let at = c .before .before .before .before .loop in
+    let given = c .before .before .before .before .before in
+    c .judge-record .ensures ∙ ap (λ (b : Bool). refusalOf (given .args .count) b (recordAt (given .args .t1) (at .place))) (c .before .is-marked .ensures)
 
 loop-holds : tie.Need-loop-holds Inv-loop μ-loop
 loop-holds c = judging-start _ _ (c .pre)
@@ -32,14 +44,10 @@ judge-record-requires : tie.Need-judge-record-requires Inv-loop μ-loop
 judge-record-requires c κs = search needs
 
 returns : tie.Need-returns Inv-loop μ-loop
-unfolding recordAt
 returns c =
     let turn = c .before .before .before .before in
-    let at = turn .before .loop in
     let given = turn .before .before in
-    let task = recordAt (given .args .t1) (at .place) in
-    let said : c .before .judge-record .result ≡ refusalOf (given .args .count) (getD (at .marks) (task .priority) false) task = cc in
-    said ∙ judging-found _ _ (given .pre) _ _ (at .inv) (turn .loop-test .taken) (λ e. c .if1 .taken (said ∙ e))
+    judged (c .before) ∙ judging-found _ _ (given .pre) _ _ (turn .before .loop .inv) (turn .loop-test .taken) (λ e. c .if1 .taken (judged (c .before) ∙ e))
 
 cast-level : tie.Need-cast-level Inv-loop μ-loop
 cast-level c = search needs
@@ -50,7 +58,7 @@ array-write-marks c =
     let turn = c .before .before .before .before .before in
     let at = turn .before .loop in
     let given = turn .before .before in
-    level-small _ (recordAt (given .args .t1)) (given .pre) (at .marks) (at .place) (at .inv) (turn .loop-test .taken) (cc)
+    level-small _ (recordAt (given .args .t1)) (given .pre) (at .marks) (at .place) (at .inv) (turn .loop-test .taken) (sym (judged (c .before .before)) ∙ c .before .if1 .left)
 
 add-place : tie.Need-add-place Inv-loop μ-loop
 add-place c = search needs
@@ -64,7 +72,7 @@ loop-again c =
     let turn = c .before .before .before .before .before in
     let at = turn .before .loop in
     let given = turn .before .before in
-    judging-more _ (recordAt (given .args .t1)) (given .pre) (at .marks) (at .place) (at .inv) (turn .loop-test .taken) (cc)
+    judging-more _ (recordAt (given .args .t1)) (given .pre) (at .marks) (at .place) (at .inv) (turn .loop-test .taken) (sym (judged (c .before .before)) ∙ c .before .if1 .left)
 
 returns-2 : tie.Need-returns-2 Inv-loop μ-loop
 returns-2 c = judging-done _ _ (c .before .before .pre) _ _ (c .before .loop .inv) (c .loop-test .left)

@@ -1,0 +1,84 @@
+/*
+ * Measures how much stack each function of the library needs: it is called on a painted stack of its own, and the paint
+ * that is left is counted. The code has no recursion and no frame of varying size, so a sheet that leads through every
+ * branch shows the most: the everyday sheet at its own interval, where every choice passes, and at interval 1, where none does.
+ */
+#include <stdio.h>
+#include <stdlib.h>
+#include <string.h>
+#include <ucontext.h>
+
+#include "fidhaqooban.h"
+#include "sheets.h"
+
+enum { STACK = 1 << 18, PAINT = 0xC5 };
+
+static uint8_t stack[STACK];
+static uint8_t sheet[FQ_SHEET_BYTES];
+static uint8_t output[FQ_LIST_BYTES];
+static size_t length;
+static struct sheet numbers;
+static ucontext_t caller, callee;
+
+static void nothing(void) {}
+static void judge(void) { fq_judge(sheet, length); }
+static void write(void) { fq_write(numbers.count, numbers.interval, numbers.fields, 48, output, sizeof output); }
+static void rewrite(void) { fq_rewrite(sheet, length, output, sizeof output); }
+static void record(void) { fq_record(sheet, length, 0); }
+static void response(void) { fq_response(sheet, length, 0); }
+static void verdict(void) { fq_verdict(sheet, length); }
+static void least_interval(void) { fq_least_interval(sheet, length); }
+static void next(void) { fq_next(sheet, length, 0); }
+static void list(void) { fq_list(sheet, length, output, sizeof output); }
+static void short_list(void) { fq_list(sheet, length, output, 40); }
+
+/* How many bytes of stack a call takes, the switch to it included. */
+static size_t depth(void (*call)(void))
+{
+    memset(stack, PAINT, STACK);
+    getcontext(&callee);
+    callee.uc_stack.ss_sp = stack;
+    callee.uc_stack.ss_size = STACK;
+    callee.uc_link = &caller;
+    makecontext(&callee, call, 0);
+    swapcontext(&caller, &callee);
+    size_t unused = 0;
+    while (unused < STACK && stack[unused] == PAINT)
+        unused++;
+    return STACK - unused;
+}
+
+/* Prints the most that each call takes on any of the sheets, less what the switch itself takes. */
+int main(void)
+{
+    static const struct {
+        const char *name;
+        void (*call)(void);
+    } calls[] = {
+        {"fq_judge", judge}, {"fq_write", write}, {"fq_rewrite", rewrite}, {"fq_record", record},
+        {"fq_response", response}, {"fq_verdict", verdict}, {"fq_least_interval", least_interval},
+        {"fq_next", next}, {"fq_list", list}, {"fq_list, no room", short_list},
+    };
+    const uint16_t intervals[] = {everyday.interval, 1};
+    size_t empty = depth(nothing);
+    size_t most = 0;
+
+    printf("\n## Stack\n\n| Call | bytes at most |\n|---|---:|\n");
+    for (size_t index = 0; index < sizeof calls / sizeof calls[0]; index++) {
+        size_t deepest = 0;
+        for (size_t which = 0; which < 2; which++) {
+            numbers = everyday;
+            numbers.interval = intervals[which];
+            length = (size_t)fq_write(numbers.count, numbers.interval, numbers.fields, 48, sheet, sizeof sheet);
+            size_t bytes = depth(calls[index].call) - empty;
+            deepest = bytes > deepest ? bytes : deepest;
+        }
+        most = deepest > most ? deepest : most;
+        printf("| %s | %zu |\n", calls[index].name, deepest);
+    }
+    if (most > FQ_STACK_BYTES) {
+        fprintf(stderr, "a call takes %zu bytes of stack, and the header says %d\n", most, FQ_STACK_BYTES);
+        return 1;
+    }
+    return 0;
+}

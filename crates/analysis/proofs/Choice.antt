@@ -1,0 +1,156 @@
+-- A choice place by place: the levels of a table's records, which entries are allowed, and what an allowed choice is in document 01's words. Assumes nothing.
+use Prim.Native.Nat.{ℕ, zero, suc, _+_, _≤_, _<_}
+use mathlib.Core.Path.{_≡_, refl, sym, ap, ap₂, _∙_, subst}
+use mathlib.Core.Bool.{Bool, true, false, not, _&&_, false≢true}
+use mathlib.Core.List.{List, [], _∷_}
+use mathlib.Core.Logic.{_↔_}
+use native.Mathlib.Nat.{not-suc-le-zero, suc-ne-zero, suc-inj}
+use native.Mathlib.Numerals.{add-one}
+use native.Mathlib.Decide.{decLt}
+use native.Mathlib.Omega.{arith}
+use borrow.Author.Tests.{lt-ltb, le-ltb, le-leb, lt-leb, eq-eqb, eqb-true, not-true}
+use lib.Dec.{ltb, leb, eqb·suc-zero}
+use lib.ListN.{length, getD, drop, replicate}
+use lib.Seq.{drop-cons, getD-set-other}
+use Rattle.sheet.specs.declared.Table.{Table}
+use Rattle.sheet.specs.Places.{filledBelow}
+use Rattle.sheet.specs.Layout.{recordAt}
+use Rattle.sheet.specs.Rules.{outside, tableRefusal}
+use Rattle.sheet.proofs.Turns.{length-filled}
+use Rattle.sheet.proofs.Agree.{filled-at}
+use Rattle.sheet.proofs.Cases.{within, outside-within, good-table, good-at}
+use Rattle.analysis.specs.Tasks.{ownChoice}
+use Rattle.analysis.specs.Allowed.{levelsOf, isAllowed, allAllowed}
+
+-- two true tests are true together
+pub and-true : (a b : Bool) → a ≡ true → b ≡ true → (a && b) ≡ true
+and-true a b d e = rw (d, e)
+
+-- and each is true where both are
+pub both-true : (a b : Bool) → (a && b) ≡ true → (a ≡ true) × (b ≡ true)
+both-true true b e = (refl, e)
+both-true false b e = absurd (false≢true e)
+
+-- what is not above is at most
+pub not-above : (a b : ℕ) → not (ltb b a) ≡ leb a b
+not-above a b = go (decLt b a)
+  where
+    go : Dec (b < a) → not (ltb b a) ≡ leb a b
+    go (yes h) = simp (lt-ltb b a h, lt-leb a b h)
+    go (no h) = simp (le-ltb b a (omega arith), le-leb a b (omega arith))
+
+-- the rest of a list from a place on is the element there and the rest after it
+pub rest-at : (l : List ℕ) (k : ℕ) → k < length l → drop k l ≡ getD l k 0 ∷ drop (k + 1) l
+rest-at l k h = rw add-one (drop-cons l k 0 h)
+
+-- the entries from a place on are allowed if the one there is, and those after it
+pub allowed-at : (ps qs : List ℕ) (k : ℕ) → k < length ps → k < length qs
+    → allAllowed (drop k ps) (drop k qs) ≡ (isAllowed (getD ps k 0) (getD qs k 0) && allAllowed (drop (k + 1) ps) (drop (k + 1) qs))
+unfolding allAllowed
+allowed-at ps qs k hp hq = ap₂ allAllowed (rest-at ps k hp) (rest-at qs k hq)
+
+-- each entry of an allowed choice is allowed at its place
+pub entry-allowed : (ps c : List ℕ) → allAllowed ps c ≡ true → (k : ℕ) → isAllowed (getD ps k 0) (getD c k 0) ≡ true
+unfolding allAllowed isAllowed
+entry-allowed [] [] e k = refl
+entry-allowed [] (q ∷ qs) e k = absurd (false≢true e)
+entry-allowed (p ∷ ps) [] e k = absurd (false≢true e)
+entry-allowed (p ∷ ps) (q ∷ qs) e zero = both-true (isAllowed p q) (allAllowed ps qs) e .0
+entry-allowed (p ∷ ps) (q ∷ qs) e (suc k) = entry-allowed ps qs (both-true (isAllowed p q) (allAllowed ps qs) e .1) k
+
+-- and a choice with an entry for each record, each allowed at its place, is allowed
+entries-allowed : (ps c : List ℕ) → length c ≡ length ps → ((k : ℕ) → isAllowed (getD ps k 0) (getD c k 0) ≡ true) → allAllowed ps c ≡ true
+unfolding allAllowed
+entries-allowed [] [] same each = refl
+entries-allowed [] (q ∷ qs) same each = absurd (suc-ne-zero (length qs) same)
+entries-allowed (p ∷ ps) [] same each = absurd (suc-ne-zero (length ps) (sym same))
+entries-allowed (p ∷ ps) (q ∷ qs) same each = and-true _ _ (each 0) (entries-allowed ps qs (suc-inj same) (λ k. each (suc k)))
+
+-- an allowed choice has an entry for each record
+pub allowed-length : (ps c : List ℕ) → allAllowed ps c ≡ true → length c ≡ length ps
+unfolding allAllowed
+allowed-length [] [] e = refl
+allowed-length [] (q ∷ qs) e = absurd (false≢true e)
+allowed-length (p ∷ ps) [] e = absurd (false≢true e)
+allowed-length (p ∷ ps) (q ∷ qs) e = ap suc (allowed-length ps qs (both-true (isAllowed p q) (allAllowed ps qs) e .1))
+
+-- an entry allowed for a record lies within 1 to its priority
+pub allowed-for : (p q : ℕ) → 1 ≤ p → (isAllowed p q ≡ true) ↔ ((1 ≤ q) × (q ≤ p))
+unfolding isAllowed
+allowed-for zero q some = absurd (not-suc-le-zero some)
+allowed-for (suc p) q some = (
+  λ e. within q (suc p) (not-true (outside q (suc p)) (rw (eqb·suc-zero p) at e)),
+  λ h. rw (eqb·suc-zero p, outside-within q (suc p) h),
+)
+
+-- and past the count only 0 is
+pub allowed-past : (q : ℕ) → (isAllowed 0 q ≡ true) ↔ (q ≡ 0)
+unfolding isAllowed
+allowed-past q = (eqb-true q 0, eq-eqb q 0)
+
+-- a list filled below n is as it was from n on
+pub filled-past : {A : Type 0} (f : ℕ → A) (n : ℕ) (room : List A) (d : A) (k : ℕ) → n ≤ k → getD (filledBelow f n room) k d ≡ getD room k d
+unfolding filledBelow
+filled-past f zero room d k h = refl
+filled-past f (suc n) room d k h = getD-set-other (filledBelow f n room) n k (f n) d (λ e. omega arith) ∙ filled-past f n room d k (omega arith)
+
+-- every place of zeros is zero
+pub zero-at-all : (n k : ℕ) → _≡_ {A = ℕ} (getD (replicate n 0) k 0) 0
+zero-at-all zero k = refl
+zero-at-all (suc n) zero = refl
+zero-at-all (suc n) (suc k) = zero-at-all n k
+
+-- the levels of a table
+module _ (t : Table) where
+  -- there are eight
+  pub length-levels : length (levelsOf t) ≡ 8
+  unfolding levelsOf
+  length-levels = length-filled _ (t .count) (replicate 8 0)
+
+  -- below the count they are the priorities
+  pub level-at : t .count ≤ 8 → (place : ℕ) → place < t .count → getD (levelsOf t) place 0 ≡ recordAt (t .records) place .priority
+  unfolding levelsOf
+  level-at few place below = filled-at (λ k. recordAt (t .records) k .priority) (t .count) (replicate 8 0) 0 few place below
+
+  -- and past it 0
+  pub level-past : (place : ℕ) → t .count ≤ place → getD (levelsOf t) place 0 ≡ 0
+  unfolding levelsOf
+  level-past place past = filled-past (λ k. recordAt (t .records) k .priority) (t .count) (replicate 8 0) 0 place past ∙ zero-at-all 8 place
+
+-- "one fault priority for each record, 1 to its p"
+abbrev pub Within : Table → List ℕ → Type 0
+Within t choice = (place : ℕ) → place < t .count → (1 ≤ getD choice place 0) × (getD choice place 0 ≤ recordAt (t .records) place .priority)
+
+-- a choice of a table: no "entry outside 1 to that record's p", and no "nonzero entry past the count"
+pub record Allowed (t : Table) (choice : List ℕ) : Type 0 where
+  pub each : Within t choice
+  pub past : (place : ℕ) → t .count ≤ place → getD choice place 0 ≡ 0
+
+-- the definition's test says just that
+pub allowed-exactly : (t : Table) → tableRefusal t ≡ 0 → (choice : List ℕ) → length choice ≡ 8 → (allAllowed (levelsOf t) choice ≡ true) ↔ Allowed t choice
+allowed-exactly t good choice eight = (
+  λ e. record {
+    each = λ place below. allowed-for _ _ (some place below) .0 (subst (λ (p : ℕ). isAllowed p (getD choice place 0) ≡ true) (level place below) (entry-allowed (levelsOf t) choice e place));
+    past = λ place over. allowed-past _ .0 (subst (λ (p : ℕ). isAllowed p (getD choice place 0) ≡ true) (level-past t place over) (entry-allowed (levelsOf t) choice e place));
+  },
+  λ w. entries-allowed (levelsOf t) choice (eight ∙ sym (length-levels t)) (λ place. at place w (decLt place (t .count))),
+)
+  where
+    level : (place : ℕ) → place < t .count → getD (levelsOf t) place 0 ≡ recordAt (t .records) place .priority
+    level = level-at t (good-table t good .count .1)
+
+    some : (place : ℕ) → place < t .count → 1 ≤ recordAt (t .records) place .priority
+    some place below = good-at (t .count) (recordAt (t .records)) (good-table t good .records) place below .priority .0
+
+    at : (place : ℕ) → Allowed t choice → Dec (place < t .count) → isAllowed (getD (levelsOf t) place 0) (getD choice place 0) ≡ true
+    at place w (yes below) = subst (λ (p : ℕ). isAllowed p (getD choice place 0) ≡ true) (sym (level place below)) (allowed-for _ _ (some place below) .1 (w .each place below))
+    at place w (no over) = subst (λ (p : ℕ). isAllowed p (getD choice place 0) ≡ true) (sym (level-past t place (omega arith))) (allowed-past _ .1 (w .past place (omega arith)))
+
+-- the sheet's own fault priorities are within
+pub own-within : (t : Table) → tableRefusal t ≡ 0 → Within t (ownChoice (t .records))
+unfolding ownChoice
+own-within t good place below =
+    let known = good-table t good in
+    subst (λ (q : ℕ). (1 ≤ q) × (q ≤ recordAt (t .records) place .priority))
+    (sym (filled-at (λ k. recordAt (t .records) k .«fault_priority») 8 (replicate 8 0) 0 (omega arith) place (omega (arith, known .count .1))))
+    (good-at (t .count) (recordAt (t .records)) (known .records) place below .fault)

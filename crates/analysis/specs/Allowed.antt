@@ -1,0 +1,25 @@
+-- Which choices of fault priorities a table has: "A choice is one fault priority for each record, 1 to its p", in eight entries, zero past the count.
+use Prim.Native.Nat.{ℕ}
+use mathlib.Core.Bool.{Bool, true, false, cond, not, _&&_}
+use mathlib.Core.List.{List, [], _∷_}
+use lib.Dec.{eqb}
+use lib.ListN.{replicate}
+use Rattle.sheet.specs.declared.Table.{Table}
+use Rattle.sheet.specs.Places.{filledBelow}
+use Rattle.sheet.specs.Layout.{recordAt}
+use Rattle.sheet.specs.Rules.{outside}
+
+-- the priorities of the records in record order, in eight entries, 0 past the count
+unfoldable pub levelsOf : Table → List ℕ
+levelsOf t = filledBelow (λ place. recordAt (t .records) place .priority) (t .count) (replicate 8 0)
+
+-- an entry "outside 1 to that record's p or a nonzero entry past the count", where p is 0, is not allowed
+unfoldable pub isAllowed : ℕ → ℕ → Bool
+isAllowed p q = cond (eqb p 0) (eqb q 0) (not (outside q p))
+
+-- a choice with an allowed entry for each record
+unfoldable pub allAllowed : List ℕ → List ℕ → Bool
+allAllowed [] [] = true
+allAllowed [] (q ∷ qs) = false
+allAllowed (p ∷ ps) [] = false
+allAllowed (p ∷ ps) (q ∷ qs) = isAllowed p q && allAllowed ps qs

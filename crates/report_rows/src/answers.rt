@@ -1,0 +1,99 @@
+// What is answered in each form of row. A row's figures are its call's arguments, in their order.
+use analysis::Outcome;
+use report::Line;
+
+// What each byte of an output holds before a line is put into it.
+const FILLER: u8 = 0xEE;
+
+// A figure of a row as a byte.
+fn short(list: &[u8], start: usize, which: usize) -> u8 {
+    (rows::figure(list, start, which) % 256) as u8
+}
+
+// A figure of a row in sixteen bits.
+fn wide(list: &[u8], start: usize, which: usize) -> u16 {
+    (rows::figure(list, start, which) % 65536) as u16
+}
+
+// Says a text without the newline that ends it; where none does, it says that.
+fn say_text(list: &[u8], at: usize, text: &[u8]) -> usize {
+    if text.len() == 0 {
+        return rows::say(list, at, b" no text");
+    }
+    let last = text.len() - 1;
+    let space = rows::say(list, at, b" ");
+    let end = rows::say(list, space, rows::first(text, last));
+    if text[last] == b'\n' {
+        end
+    } else {
+        rows::say(list, end, b" and no newline")
+    }
+}
+
+// Says a line.
+fn say_line(list: &[u8], at: usize, line: Line) -> usize {
+    let bytes = line.bytes;
+    say_text(list, at, rows::first(&bytes, line.len))
+}
+
+// An interval's line.
+pub fn interval(list: &[u8], start: usize, at: usize) -> usize {
+    say_line(list, at, report::interval_line(wide(list, start, 1)))
+}
+
+// The line of a task on time.
+pub fn on_time(list: &[u8], start: usize, at: usize) -> usize {
+    let outcome = Outcome::OnTime(wide(list, start, 2));
+    say_line(list, at, report::task_line(short(list, start, 1), outcome))
+}
+
+// The line of a task that is late.
+pub fn late(list: &[u8], start: usize, at: usize) -> usize {
+    let outcome = Outcome::Late;
+    say_line(list, at, report::task_line(short(list, start, 1), outcome))
+}
+
+// The line of a choice: the count and eight entries.
+pub fn pass(list: &[u8], start: usize, at: usize) -> usize {
+    let choice = [
+        short(list, start, 2),
+        short(list, start, 3),
+        short(list, start, 4),
+        short(list, start, 5),
+        short(list, start, 6),
+        short(list, start, 7),
+        short(list, start, 8),
+        short(list, start, 9),
+    ];
+    say_line(list, at, report::pass_line(short(list, start, 1), choice))
+}
+
+// The line of a number of choices.
+pub fn end(list: &[u8], start: usize, at: usize) -> usize {
+    say_line(list, at, report::end_line(rows::figure(list, start, 1)))
+}
+
+// A refusal's line.
+pub fn refused(list: &[u8], start: usize, at: usize) -> usize {
+    say_line(list, at, report::refused_line(short(list, start, 1)))
+}
+
+// Puts a line at a place of the first bytes of an output.
+fn put_into(line: Line, output: &mut [u8], length: usize, place: usize) -> usize {
+    if length <= output.len() {
+        report::put_line(line, &mut output[0..length], place)
+    } else {
+        report::put_line(line, output, place)
+    }
+}
+
+// The line of so many choices put at a place of the first so many bytes of twelve: where it ends, and all twelve bytes after that.
+pub fn put(list: &[u8], start: usize, at: usize) -> usize {
+    let mut output = [FILLER; 12];
+    let line = report::end_line(rows::figure(list, start, 1));
+    let place = rows::figure(list, start, 2) as usize;
+    let length = rows::figure(list, start, 3) as usize;
+    let ended = put_into(line, &mut output, length, place);
+    let end = rows::say_spaced(list, at, ended as u64);
+    rows::say_bytes(list, rows::say(list, end, b", bytes"), &output)
+}

@@ -1,0 +1,5 @@
+-- Laws that belong to no one function.
+pub mod Places
+pub mod Digits
+pub mod Sayings
+pub mod Unique

@@ -1,0 +1,5 @@
+-- What the promises of the crate cite.
+pub mod Lists
+pub mod Answers
+pub mod Tallies
+pub mod Tables

@@ -1,0 +1,118 @@
+-- What stands beside a refusal, in document 01's words: "A refusal returns its number with all other figures 0, a zero table, or an empty part of the sheet; output
+-- buffers stay as they were"; and when 11 and 12, which are tried after the rules, are given. Assumes nothing.
+use Prim.Native.Nat.{ℕ, _+_, _*_, _≤_, _<_}
+use mathlib.Core.Path.{_≡_, refl, sym, ap, _∙_}
+use mathlib.Core.Bool.{Bool, true, false, cond, false≢true}
+use mathlib.Core.List.{List, []}
+use mathlib.Core.Logic.{_↔_}
+use native.Mathlib.Decide.{ℕ-discrete}
+use native.Mathlib.Omega.{arith}
+use native.Mathlib.Nat.{add-zero}
+use borrow.Author.Tests.{ne-eqb}
+use lib.ListN.{length, getD, getD-replicate}
+use denote.Ref.{RefT, now}
+use Rattle.sheet.specs.declared.Record.{Record}
+use Rattle.sheet.specs.declared.Table.{Table}
+use Rattle.sheet.specs.declared.Excerpt.{Excerpt}
+use Rattle.sheet.specs.Places.{orElse}
+use Rattle.sheet.specs.Layout.{countOf, sizeOf, noRecord}
+use Rattle.sheet.specs.Rules.{sheetRefusal, tableRefusal}
+use Rattle.sheet.specs.Answers.{readAnswer, writeRefusal, writeAnswer, writeLeaves, placeRefusal, partStart, partBytes, Part, Excerpted}
+use Rattle.sheet.proofs.Turns.{next-of, first-of, none-of}
+use Rattle.sheet.proofs.Tells.{Tells, holds, fails, ltb-tells}
+use Rattle.sheet.proofs.Order.{sheet-in-order, table-in-order}
+
+-- a number above the rules' that is tried after them
+module _ (rule number : ℕ) (few : rule ≤ 10) (new : 10 < number) where
+  -- it is given exactly if no rule is broken and what is tried next gives it
+  pub tried-last : (next : ℕ) → (orElse rule next ≡ number) ↔ ((rule ≡ 0) × (next ≡ number))
+  tried-last next = (λ e. go (ℕ-discrete rule 0) e, λ h. next-of next (h .0) ∙ h .1)
+    where
+      go : Dec (rule ≡ 0) → orElse rule next ≡ number → (rule ≡ 0) × (next ≡ number)
+      go (yes z) e = (z, sym (next-of next z) ∙ e)
+      go (no z) e = absurd (omega (arith, first-of rule next z, e))
+
+  -- so exactly if none is and its own test holds
+  pub given-if : {P : Type 0} {b : Bool} → Tells P b → (orElse rule (cond b number 0) ≡ number) ↔ ((rule ≡ 0) × P)
+  given-if (holds p) = (λ e. (tried-last number .0 e .0, p), λ h. tried-last number .1 (h .0, refl))
+  given-if (fails n) = (λ e. absurd (omega (arith, tried-last 0 .0 e .1)), λ h. absurd (n (h .1)))
+
+  -- or exactly if none is and its test fails
+  pub given-unless : {P : Type 0} {b : Bool} → Tells P b → (orElse rule (cond b 0 number) ≡ number) ↔ ((rule ≡ 0) × (P → ⊥))
+  given-unless (holds p) = (λ e. absurd (omega (arith, tried-last 0 .0 e .1)), λ h. absurd (h .1 p))
+  given-unless (fails n) = (λ e. (tried-last number .0 e .0, n), λ h. tried-last number .1 (h .0, refl))
+
+  -- and then nothing is refused exactly if no rule is broken and its test holds
+  pub passed-if : {P : Type 0} {b : Bool} → Tells P b → (orElse rule (cond b 0 number) ≡ 0) ↔ ((rule ≡ 0) × P)
+  passed-if (holds p) = (λ e. (none-of rule 0 e .0, p), λ h. next-of 0 (h .0))
+  passed-if (fails n) = (λ e. absurd (omega (arith, none-of rule number e .1)), λ h. absurd (n (h .1)))
+
+-- a test tells that it is true
+pub tests : (b : Bool) → Tells (b ≡ true) b
+tests true = holds refl
+tests false = fails false≢true
+
+-- a record whose figures are all 0
+pub record Zeros (r : Record) : Type 0 where
+  pub cost : r .cost ≡ 0
+  pub backup : r .backup ≡ 0
+  pub deadline : r .deadline ≡ 0
+  pub period : r .period ≡ 0
+  pub priority : r .priority ≡ 0
+  pub fault : r .«fault_priority» ≡ 0
+
+-- "a zero table": all its figures are 0
+pub record ZeroTable (t : Table) : Type 0 where
+  pub count : t .count ≡ 0
+  pub interval : t .interval ≡ 0
+  pub eight : length (t .records) ≡ 8
+  pub records : (place : ℕ) → place < 8 → (other : Record) → Zeros (getD (t .records) place other)
+
+-- the record of zeros is one
+zeros : (r : Record) → r ≡ noRecord → Zeros r
+zeros r e =
+    record {
+      cost = ap (λ (x : Record). x .cost) e;
+      backup = ap (λ (x : Record). x .backup) e;
+      deadline = ap (λ (x : Record). x .deadline) e;
+      period = ap (λ (x : Record). x .period) e;
+      priority = ap (λ (x : Record). x .priority) e;
+      fault = ap (λ (x : Record). x .«fault_priority») e;
+    }
+
+-- `read`: a refused sheet has its number beside a zero table
+pub read-refused : (s : List ℕ) → (sheetRefusal s ≡ 0 → ⊥) → (readAnswer s .refusal ≡ sheetRefusal s) × ZeroTable (readAnswer s .table)
+unfolding readAnswer
+read-refused s broken =
+    simp (ne-eqb (sheetRefusal s) 0 broken)
+    (refl, record { count = refl; interval = refl; eight = refl; records = λ place below other. zeros _ (getD-replicate 8 place noRecord other below) })
+
+module _ (t : Table) (out : List ℕ) where
+  -- `write`: 11 exactly if the table is good and "the lent output is shorter than what is to be written", 3 + 9n bytes
+  pub write-11 : (writeRefusal t out ≡ 11) ↔ ((tableRefusal t ≡ 0) × (length out < 3 + 9 * t .count))
+  unfolding writeRefusal sizeOf
+  write-11 = given-if (tableRefusal t) 11 (table-in-order t .range) (omega arith) (ltb-tells (length out) (3 + 9 * t .count))
+
+  -- refused, no byte is written and the output stays as it was
+  pub write-refused-leaves : (writeRefusal t out ≡ 0 → ⊥) → (writeAnswer t out .refusal ≡ writeRefusal t out) × (writeAnswer t out .written ≡ 0) × (writeLeaves t out ≡ out)
+  unfolding writeAnswer writeLeaves
+  write-refused-leaves broken = simp (ne-eqb (writeRefusal t out) 0 broken) (refl, refl, refl)
+
+-- `judge_place`: 12 exactly if the sheet is good and "the record place asked for is not below the count"
+pub place-12 : (s : List ℕ) (place : ℕ) → (placeRefusal s place ≡ 12) ↔ ((sheetRefusal s ≡ 0) × (countOf s ≤ place))
+unfolding placeRefusal
+place-12 s place =
+    let last = given-unless (sheetRefusal s) 12 (sheet-in-order s .range) (omega arith) (ltb-tells place (countOf s)) in
+    (λ e. let h = last .0 e in (h .0, omega arith), λ h. last .1 (h .0, λ below. omega arith))
+
+module _ (sheet : RefT (List ℕ)) (place : ℕ) (broken : placeRefusal (now sheet) place ≡ 0 → ⊥) where
+  -- `record_part`: refused, the part is empty, and stands at the sheet's start
+  pub part-refused : (part : RefT (List ℕ)) → Part sheet place part → (now part ≡ []) × (part .ptr .0 ≡ sheet .ptr .0) × (part .ptr .1 ≡ sheet .ptr .1)
+  unfolding partStart partBytes
+  part-refused part p =
+      let no-rule = ne-eqb (placeRefusal (now sheet) place) 0 broken in
+      (p .content ∙ simp no-rule, p .block, p .offset ∙ simp no-rule (add-zero _))
+
+  -- `record_of`: the number beside such a part
+  pub excerpt-refused : (excerpt : Excerpt) → Excerpted sheet place excerpt → (excerpt .refusal ≡ placeRefusal (now sheet) place) × (now (excerpt .part) ≡ [])
+  excerpt-refused excerpt e = (e .refusal, part-refused (excerpt .part) (e .part) .0)
