@@ -17,6 +17,9 @@
 
 #define UNTOUCHED 0xA5
 #define DEADLINE_NUMBER 2
+#define PERIOD_NUMBER 3
+#define PRIORITY_NUMBER 4
+#define LOG_TICKS 10000
 #define LENGTH(array) (sizeof(array) / sizeof((array)[0]))
 
 /* The calls of one side. */
@@ -28,6 +31,7 @@ struct side {
     int64_t (*least_interval)(const uint8_t *, size_t);
     int64_t (*next)(const uint8_t *, size_t, uint32_t);
     int64_t (*list)(const uint8_t *, size_t, uint8_t *, size_t);
+    int64_t (*replay)(const uint8_t *, size_t, const uint8_t *, size_t, uint64_t *, size_t);
 };
 
 /* The bytes of a sheet and its number of tasks. */
@@ -63,12 +67,13 @@ struct effort {
 };
 
 static const struct side sides[2] = {
-    {fq_judge, fq_rewrite, fq_response, fq_verdict, fq_least_interval, fq_next, fq_list},
+    {fq_judge, fq_rewrite, fq_response, fq_verdict, fq_least_interval, fq_next, fq_list, fq_replay},
     {climbing_judge, climbing_rewrite, climbing_response, climbing_verdict, climbing_least_interval,
-     climbing_next, climbing_list},
+     climbing_next, climbing_list, climbing_replay},
 };
 
 static uint8_t outputs[2][FQ_LIST_BYTES];
+static uint8_t busy_log[2 * LOG_TICKS];
 
 /* Judges a sheet. */
 static int64_t use_judge(const struct side *side, const struct packed *sheet, uint8_t *out)
@@ -141,11 +146,35 @@ static int64_t use_list(const struct side *side, const struct packed *sheet, uin
     return side->list(sheet->bytes, sheet->len, out, FQ_LIST_BYTES);
 }
 
+/* Fills the log of the everyday sheet in which each task and each fault comes as soon as it may. */
+static void fill_log(void)
+{
+    for (size_t tick = 0; tick < LOG_TICKS; tick++) {
+        for (size_t place = 0; place < everyday.count; place++) {
+            const uint16_t *fields = everyday.fields + FQ_RECORD_NUMBERS * place;
+            if (tick % fields[PERIOD_NUMBER] == 0)
+                busy_log[2 * tick] |= (uint8_t)(1u << (fields[PRIORITY_NUMBER] - 1));
+        }
+        busy_log[2 * tick + 1] = tick % everyday.interval == 0 ? 128 : 0;
+    }
+}
+
+/* Replays a log of LOG_TICKS ticks. */
+static int64_t use_replay(const struct side *side, const struct packed *sheet, uint8_t *out)
+{
+    uint64_t counts[FQ_COUNTS];
+    int64_t answer = side->replay(sheet->bytes, sheet->len, busy_log, 2 * LOG_TICKS, counts, FQ_COUNTS);
+
+    memcpy(out, counts, sizeof counts);
+    return answer;
+}
+
 /* Makes calls that are refused, each for another reason, and lists into one byte too little. */
 static int64_t use_refused(const struct side *side, const struct packed *sheet, uint8_t *out)
 {
     size_t len = sheet->len;
     size_t passing = (size_t)side->list(sheet->bytes, len, out, FQ_LIST_BYTES);
+    uint64_t counts[FQ_COUNTS];
 
     memset(out, UNTOUCHED, FQ_LIST_BYTES);
     int64_t answers[] = {
@@ -156,6 +185,8 @@ static int64_t use_refused(const struct side *side, const struct packed *sheet, 
         side->next(sheet->bytes, len, 1),
         side->rewrite(sheet->bytes, len, out, len - 1),
         side->list(sheet->bytes, len, out, 4 * passing - 1),
+        side->replay(sheet->bytes, len, busy_log, 3, counts, FQ_COUNTS),
+        side->replay(sheet->bytes, len, busy_log, 2 * LOG_TICKS, counts, FQ_COUNTS - 1),
     };
     memcpy(out + FQ_LIST_BYTES - sizeof answers, answers, sizeof answers);
     return (int64_t)passing;
@@ -173,6 +204,7 @@ static struct row main_rows[] = {
     {.name = "list of 8 tasks, none: last record late", .use = use_list, .sheet = &everyday, .place = 7, .deadline = 39},
     {.name = "least interval of 8 tasks, 257", .use = use_least_interval, .sheet = &everyday},
     {.name = "walk through all 720 of 6 tasks", .use = use_walk, .sheet = &everyday, .count = 6},
+    {.name = "replay of 10000 ticks of 8 tasks", .use = use_replay, .sheet = &everyday},
 };
 
 /* The rows of one call in the second table, on the first n records of the everyday sheet. */
@@ -321,6 +353,7 @@ int main(int argc, char **argv)
         fprintf(stderr, "one argument is wanted: how the program was built and is run\n");
         return 2;
     }
+    fill_log();
     check(&refused_row, 1);
     check(main_rows, LENGTH(main_rows));
     check(growth_rows, LENGTH(growth_rows));

@@ -16,6 +16,8 @@ enum { STACK = 1 << 18, PAINT = 0xC5 };
 static uint8_t stack[STACK];
 static uint8_t sheet[FQ_SHEET_BYTES];
 static uint8_t output[FQ_LIST_BYTES];
+static const uint8_t log_bytes[] = {255, 128, 0, 0, 0, 0};
+static uint64_t counts[FQ_COUNTS];
 static size_t length;
 static struct sheet numbers;
 static ucontext_t caller, callee;
@@ -31,6 +33,7 @@ static void least_interval(void) { fq_least_interval(sheet, length); }
 static void next(void) { fq_next(sheet, length, 0); }
 static void list(void) { fq_list(sheet, length, output, sizeof output); }
 static void short_list(void) { fq_list(sheet, length, output, 40); }
+static void replay(void) { fq_replay(sheet, length, log_bytes, sizeof log_bytes, counts, FQ_COUNTS); }
 
 /* How many bytes of stack a call takes, the switch to it included. */
 static size_t depth(void (*call)(void))
@@ -57,7 +60,7 @@ int main(void)
     } calls[] = {
         {"fq_judge", judge}, {"fq_write", write}, {"fq_rewrite", rewrite}, {"fq_record", record},
         {"fq_response", response}, {"fq_verdict", verdict}, {"fq_least_interval", least_interval},
-        {"fq_next", next}, {"fq_list", list}, {"fq_list, no room", short_list},
+        {"fq_next", next}, {"fq_list", list}, {"fq_list, no room", short_list}, {"fq_replay", replay},
     };
     const uint16_t intervals[] = {everyday.interval, 1};
     size_t empty = depth(nothing);

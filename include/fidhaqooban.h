@@ -33,7 +33,7 @@ extern "C" {
 #endif
 
 /* The version of this header and library; `./desk --version` prints the same. */
-#define FQ_VERSION "1.0.0"
+#define FQ_VERSION "1.1.0"
 
 /*
  * What a refused call gives, in the order in which the rules are tried: the number of the first rule broken,
@@ -52,6 +52,10 @@ enum fq_refusal {
     FQ_BAD_FAULT_PRIORITY = 10, /* a fault priority is outside 1 to the record's own priority */
     FQ_BAD_PLACE = 12,          /* the record place asked for is not below the count */
     FQ_BAD_CHOICE = 13,         /* the choice to go on after is neither 0 nor allowed */
+    FQ_ODD_LOG = 14,            /* a log has an odd number of bytes */
+    FQ_STRANGE_BIT = 15,        /* a tick has a release bit above the count, or one of the seven other bits set */
+    FQ_EARLY_RELEASE = 16,      /* a release sooner than its period after that task's last */
+    FQ_EARLY_FAULT = 17,        /* a fault sooner than the fault interval after the last */
     FQ_SHORT_OUTPUT = 11        /* the lent output is shorter than what is to be written: tried last */
 };
 
@@ -61,6 +65,18 @@ enum fq_refusal {
 /* The longest sheet, eight tasks, and the longest list, all 8! choices of such a sheet, in bytes. */
 #define FQ_SHEET_BYTES 75
 #define FQ_LIST_BYTES 161280
+
+/* The counts of fq_replay: ticks of the first three kinds, which are all ticks, and jobs; those released are finished, missed or unfinished. */
+enum fq_count {
+    FQ_FIRST_ATTEMPTS,
+    FQ_BACKUPS,
+    FQ_IDLING,
+    FQ_RELEASED,
+    FQ_FINISHED,
+    FQ_MISSED,
+    FQ_UNFINISHED,
+    FQ_COUNTS
+};
 
 /* How many numbers fq_write takes for each record: cost, backup, deadline, period, priority, fault priority. */
 #define FQ_RECORD_NUMBERS 6
@@ -121,6 +137,17 @@ int64_t fq_next(const uint8_t *sheet, size_t len, uint32_t after);
  * Answer: how many entries were written, or minus the refusal (1 to 11).
  */
 int64_t fq_list(const uint8_t *sheet, size_t len, uint8_t *out, size_t out_len);
+
+/*
+ * Replays a log of the box: two bytes a tick, first the releases, one bit for each priority with priority 8
+ * as the most significant bit, then the fault bit as the most significant and seven zeros. docs/REPLAY.md
+ * follows a log tick by tick. The log is judged whole, rules 14 to 17, before anything is counted.
+ * Answer: 0 with FQ_COUNTS numbers in `counts`, in the order of enum fq_count, or minus the refusal (1 to 10,
+ * 14 to 17, and last 11 where there is no room for them). `counts_len` is how many numbers have room; those
+ * after the first FQ_COUNTS are not touched. A count is taken modulo 2^64, which no log below 2^61 bytes reaches.
+ */
+int64_t fq_replay(const uint8_t *sheet, size_t len, const uint8_t *log, size_t log_len, uint64_t *counts,
+                  size_t counts_len);
 
 #ifdef __cplusplus
 }

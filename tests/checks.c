@@ -10,6 +10,8 @@
 
 enum { MOST_REPORTS = 20 };
 
+static const char *const KINDS[] = {[CODEC] = "codec", [ANALYSIS] = "analysis", [REPLAY] = "replay"};
+
 /* One call with both its answers, as a report of a difference shows it. */
 struct call {
     const char *function;
@@ -17,6 +19,7 @@ struct call {
     int64_t library;
     int64_t plain;
     const struct writing *writing;
+    const struct log *log;
 };
 
 /* Prints what fq_write was given: the count, the interval and the numbers that are there, in hexadecimal. */
@@ -28,12 +31,12 @@ static void print_writing(const struct writing *writing)
     }
 }
 
-/* Prints the sheet that lies in the input as it was before the call, in hexadecimal. */
-static void print_sheet(const struct comparison *comparison)
+/* Prints bytes in hexadecimal. */
+static void print_bytes(const char *name, const uint8_t *bytes, size_t length)
 {
-    printf("sheet ");
-    for (size_t index = 0; index < comparison->sheet_length; index++) {
-        printf("%02x", (unsigned)comparison->input_before[comparison->sheet_start + index]);
+    printf("%s ", name);
+    for (size_t index = 0; index < length; index++) {
+        printf("%02x", (unsigned)bytes[index]);
     }
 }
 
@@ -53,10 +56,13 @@ static void settle(struct comparison *comparison, const struct call *call, const
     if (call->writing != NULL) {
         print_writing(call->writing);
     } else {
-        print_sheet(comparison);
+        print_bytes("sheet", comparison->input_before + comparison->sheet_start, comparison->sheet_length);
+    }
+    if (call->log != NULL) {
+        print_bytes(", log", call->log->bytes, call->log->length);
     }
     printf(", seed %" PRIu64 " count %" PRIu64 ", %s round %" PRIu64 "\n", comparison->seed,
-           comparison->count, comparison->kind == CODEC ? "codec" : "analysis", comparison->round);
+           comparison->count, KINDS[comparison->kind], comparison->round);
 }
 
 /* Checks the answers of a call, and that the sheet and the bytes around it are as they were. */
@@ -243,6 +249,28 @@ void check_step(struct comparison *comparison, uint32_t after, int64_t expected)
 {
     check_whole(comparison, "fq_next", after, fq_next(laid(comparison), comparison->sheet_length, after),
                 expected);
+}
+
+/* Compares the replay of a log; the library gets a copy of it, which must not change, and room for so many counts. */
+int64_t check_replay(struct comparison *comparison, const struct log *log, size_t counts_len)
+{
+    uint64_t before[COUNTS_ROOM], library[COUNTS_ROOM], plain[COUNTS_ROOM];
+    struct log given = *log;
+    struct call call = {.function = "fq_replay", .argument = counts_len, .log = log};
+    random_bytes(&comparison->generator, (uint8_t *)before, sizeof before);
+    memcpy(library, before, sizeof before);
+    memcpy(plain, before, sizeof before);
+    call.library = fq_replay(laid(comparison), comparison->sheet_length, given.bytes, given.length,
+                             library + 1, counts_len);
+    call.plain = plain_replay(laid(comparison), comparison->sheet_length, log->bytes, log->length, plain + 1,
+                              counts_len);
+    settle_call(comparison, &call);
+    settle(comparison, &call, "log", memcmp(&given, log, sizeof given) == 0);
+    settle(comparison, &call, "counts", memcmp(library, plain, sizeof library) == 0);
+    if (call.plain < 0) {
+        settle(comparison, &call, "counts of a refused call", memcmp(library, before, sizeof before) == 0);
+    }
+    return call.plain;
 }
 
 /* Puts the four bytes of an entry together, the first one highest. */

@@ -5,6 +5,7 @@
 #ifndef CHECKS_H
 #define CHECKS_H
 
+#include "logs.h"
 #include "sheets.h"
 
 #include <fidhaqooban.h>
@@ -14,11 +15,12 @@ enum {
     MOST_GIVEN_NUMBERS = 64,
     LENT_ROOM = FQ_LIST_BYTES + 64,
     INPUT_ROOM = SHEET_ROOM + 2 * MARGIN,
-    ARENA_ROOM = LENT_ROOM + 2 * MARGIN
+    ARENA_ROOM = LENT_ROOM + 2 * MARGIN,
+    COUNTS_ROOM = 16
 };
 
-/* The two kinds of rounds. */
-enum round_kind { CODEC, ANALYSIS };
+/* The kinds of rounds. */
+enum round_kind { CODEC, ANALYSIS, REPLAY };
 
 /* The state of a whole run: which round it is in, what it lends to the calls, and what was found so far. */
 struct comparison {
@@ -62,6 +64,7 @@ int64_t check_verdict(struct comparison *comparison);
 int64_t check_least_interval(struct comparison *comparison);
 int64_t check_next(struct comparison *comparison, uint32_t after);
 int64_t check_list(struct comparison *comparison, size_t out_len);
+int64_t check_replay(struct comparison *comparison, const struct log *log, size_t counts_len);
 
 /* Checks that the library's step after a choice is the expected one; the plain desk is not asked again. */
 void check_step(struct comparison *comparison, uint32_t after, int64_t expected);

@@ -17,6 +17,10 @@ enum {
     DEFAULT_COUNT = 80000,
     /* One analysis sheet is run for so many codec sheets. */
     CODEC_SHEETS_FOR_ANALYSIS_SHEET = 20,
+    /* One log is replayed for so many. */
+    CODEC_SHEETS_FOR_LOG = 4,
+    /* The first refusal of a log. */
+    FIRST_OF_LOGS = 14,
     NO_DIFFERENCE = 0,
     DIFFERENT_OR_NOTHING_RUN = 1,
     BAD_ARGUMENTS = 2
@@ -27,11 +31,12 @@ static void print_usage(FILE *stream)
 {
     fprintf(stream,
             "usage: compare [SEED [COUNT]]\n"
-            "Runs COUNT random sheets through reading and writing and COUNT / %d through the analysis,\n"
-            "each through the library and through a plain implementation, and compares the answers.\n"
+            "Runs COUNT random sheets through reading and writing, COUNT / %d through the analysis and\n"
+            "COUNT / %d logs through the replay, each through the library and through a plain\n"
+            "implementation, and compares the answers.\n"
             "SEED and COUNT are whole numbers; the defaults are %d and %d.\n"
             "Status: 0 no difference, 1 a difference or nothing run, 2 bad arguments.\n",
-            CODEC_SHEETS_FOR_ANALYSIS_SHEET, DEFAULT_SEED, DEFAULT_COUNT);
+            CODEC_SHEETS_FOR_ANALYSIS_SHEET, CODEC_SHEETS_FOR_LOG, DEFAULT_SEED, DEFAULT_COUNT);
 }
 
 /* Reads a whole number of decimal digits only. */
@@ -51,21 +56,30 @@ static void print_tally(const struct comparison *comparison, const struct tally 
     for (unsigned answer = 0; answer < JUDGEMENTS; answer++) {
         printf(" %u: %" PRIu64 "%s", answer, tally->judged[answer], answer + 1 < JUDGEMENTS ? "," : "\n");
     }
-    printf("least intervals of none: %" PRIu64 ", listed choices: %" PRIu64 "\n",
+    printf("logs by answer of fq_replay: 0: %" PRIu64, tally->replayed[0]);
+    for (unsigned refusal = FIRST_OF_LOGS; refusal < REPLAY_JUDGEMENTS; refusal++) {
+        printf(", %u: %" PRIu64, refusal, tally->replayed[refusal]);
+    }
+    printf("\nleast intervals of none: %" PRIu64 ", listed choices: %" PRIu64 "\n",
            tally->least_intervals_of_none, tally->listed_choices);
     printf("%" PRIu64 " codec sheets, %" PRIu64 " analysis sheets (%" PRIu64 " pass, %" PRIu64 " do not), ",
            tally->codec_sheets, tally->analysis_sheets, tally->passing, tally->late);
-    printf("%" PRIu64 " least intervals, %" PRIu64 " lists (%" PRIu64 " of eight tasks), ",
-           tally->least_intervals, tally->lists, tally->lists_of_eight);
+    printf("%" PRIu64 " least intervals, %" PRIu64 " lists (%" PRIu64 " of eight tasks), %" PRIu64 " logs, ",
+           tally->least_intervals, tally->lists, tally->lists_of_eight, tally->logs);
     printf("%" PRIu64 " checks, %" PRIu64 " differences\n", comparison->checks, comparison->differences);
 }
 
-/* Whether at least one sheet of each kind was run. */
+/* Whether at least one sheet of each kind, and a log of each judgement, was run. */
 static bool every_kind_run(const struct tally *tally)
 {
+    for (unsigned refusal = FIRST_OF_LOGS; refusal < REPLAY_JUDGEMENTS; refusal++) {
+        if (tally->replayed[refusal] == 0) {
+            return false;
+        }
+    }
     return tally->judged[0] > 0 && tally->judged[0] < tally->codec_sheets && tally->passing > 0 &&
            tally->late > 0 && tally->least_intervals > 0 && tally->lists > tally->lists_of_eight &&
-           tally->lists_of_eight > 0;
+           tally->lists_of_eight > 0 && tally->replayed[0] > 0;
 }
 
 /* Runs all rounds, prints what was found, and gives the status of the program. */
@@ -78,6 +92,9 @@ static int run(struct comparison *comparison)
     }
     for (uint64_t round = 0; round < comparison->count / CODEC_SHEETS_FOR_ANALYSIS_SHEET; round++) {
         analysis_round(comparison, &tally, round);
+    }
+    for (uint64_t round = 0; round < comparison->count / CODEC_SHEETS_FOR_LOG; round++) {
+        replay_round(comparison, &tally, round);
     }
     print_tally(comparison, &tally);
     if (!every_kind_run(&tally)) {

@@ -1,5 +1,5 @@
 /*
- * The plain desk: the nine functions of fidhaqooban.h written a second time, from the rules alone and by
+ * The plain desk: the functions of fidhaqooban.h written a second time, from the rules alone and by
  * plain search, so that the library has something independent to be compared with.
  */
 #ifndef PLAIN_H
@@ -19,5 +19,7 @@ int64_t plain_verdict(const uint8_t *sheet, size_t len);
 int64_t plain_least_interval(const uint8_t *sheet, size_t len);
 int64_t plain_next(const uint8_t *sheet, size_t len, uint32_t after);
 int64_t plain_list(const uint8_t *sheet, size_t len, uint8_t *out, size_t out_len);
+int64_t plain_replay(const uint8_t *sheet, size_t len, const uint8_t *log, size_t log_len, uint64_t *counts,
+                     size_t counts_len);
 
 #endif

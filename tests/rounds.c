@@ -1,4 +1,4 @@
-/* The two kinds of rounds of the comparison. */
+/* The kinds of rounds of the comparison. */
 #include "rounds.h"
 
 #include "plain.h"
@@ -28,6 +28,7 @@ enum {
     LONGEST_EIGHT_LISTED = 40,
     LONGEST_LEAST_INTERVAL = 60,
     LONGEST_LEAST_INTERVAL_FOUND = 600,
+    LONGEST_REPLAYED = 40,
     /* A list of fewer entries is walked step by step. */
     MOST_STEPS = 1000,
     /* One in so many sheets that pass at no interval at all is kept: these make the search try all 65,535. */
@@ -73,6 +74,7 @@ static void check_refused_calls(struct comparison *comparison)
     check_next(comparison, (uint32_t)random_below(generator, UINT32_MAX));
     check_list(comparison, 0);
     check_list(comparison, random_below(generator, SHEET_ROOM));
+    check_replay(comparison, &(struct log){.length = random_below(generator, LONGEST_LOG)}, FQ_COUNTS);
 }
 
 /* Cuts a sheet short at every length below its own. */
@@ -333,6 +335,24 @@ void analysis_round(struct comparison *comparison, struct tally *tally, uint64_t
         draft = modest_draft(generator);
         check_draft(comparison, tally, &draft);
     }
+}
+
+/* Replays a good log of a small sheet, damaged in the way whose turn it is, into room for more, for just and for too few counts. */
+void replay_round(struct comparison *comparison, struct tally *tally, uint64_t round)
+{
+    struct generator *generator = &comparison->generator;
+    start_round(comparison, REPLAY, round);
+    unsigned longest = 2 + (unsigned)random_below(generator, LONGEST_REPLAYED - 1);
+    struct draft draft = timed_draft(generator, 1 + (unsigned)random_below(generator, MOST_TASKS), longest);
+    struct sheet sheet = packed(&draft);
+    enum log_damage damage = round % 2 == 0 ? NO_LOG_DAMAGE : (enum log_damage)(round / 2 % LOG_DAMAGES);
+    struct log log = random_log(generator, &draft, damage);
+    lay_sheet(comparison, sheet.bytes, sheet.length);
+    int64_t answer = check_replay(comparison, &log, FQ_COUNTS);
+    check_replay(comparison, &log, FQ_COUNTS + random_below(generator, 3));
+    check_replay(comparison, &log, random_below(generator, FQ_COUNTS));
+    tally->logs++;
+    tally->replayed[-answer]++;
 }
 
 /*

@@ -1,13 +1,13 @@
 /*
- * The two kinds of rounds of the comparison: codec rounds, which read, write and damage sheets, and analysis
- * rounds, which ask for times, verdicts, intervals and choices.
+ * The kinds of rounds of the comparison: codec rounds, which read, write and damage sheets, analysis rounds,
+ * which ask for times, verdicts, intervals and choices, and replay rounds, which replay logs.
  */
 #ifndef ROUNDS_H
 #define ROUNDS_H
 
 #include "checks.h"
 
-enum { JUDGEMENTS = 11 };
+enum { JUDGEMENTS = 11, REPLAY_JUDGEMENTS = 18 };
 
 /* What was run so far, by kind. */
 struct tally {
@@ -21,6 +21,8 @@ struct tally {
     uint64_t lists;
     uint64_t lists_of_eight;
     uint64_t listed_choices;
+    uint64_t logs;
+    uint64_t replayed[REPLAY_JUDGEMENTS];
 };
 
 /* Checks the least intervals at the far end, which random sheets do not reach. */
@@ -31,5 +33,8 @@ void codec_round(struct comparison *comparison, struct tally *tally, uint64_t ro
 
 /* Runs one analysis round. */
 void analysis_round(struct comparison *comparison, struct tally *tally, uint64_t round);
+
+/* Runs one replay round. */
+void replay_round(struct comparison *comparison, struct tally *tally, uint64_t round);
 
 #endif

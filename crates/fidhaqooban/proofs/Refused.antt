@@ -26,9 +26,9 @@ use Rattle.choices.specs.Order.{afterOf}
 use Rattle.choices.specs.Answers.{walkRefusal, listRefusal}
 use Rattle.choices.proofs.Demands.{Zero, start-13}
 use Rattle.choices.proofs.Refused.{list-11, list-refused-leaves}
-use Rattle.fidhaqooban.specs.Numbers.{answerOf, givenTable, entriesOf, choiceOf}
-use Rattle.fidhaqooban.specs.Answers.{writeNumber, writeLeft, rewriteRefusal, rewriteNumber, rewriteLeft}
-use Rattle.fidhaqooban.specs.Answers.{recordNumber, responseNumber, verdictNumber, intervalNumber, firstNumber, nextRefusal, nextNumber, listingRefusal, listNumber, listLeft}
+use Rattle.fidhaqooban.specs.Numbers.{answerOf, givenTable, entriesOf, choiceOf, countNumbers}
+use Rattle.replay.specs.Answers.{replayAnswer}
+use Rattle.fidhaqooban.specs.Answers.{writeNumber, writeLeft, rewriteRefusal, rewriteNumber, rewriteLeft, recordNumber, responseNumber, verdictNumber, intervalNumber, firstNumber, nextRefusal, nextNumber, listingRefusal, listNumber, listLeft, replayedRefusal, replayNumber, replayLeft}
 
 -- "A negative answer is minus the refusal number": what an answer is, refused or not
 pub record Said (refusal value : ℕ) (answer : ℤ) : Type 0 where
@@ -143,3 +143,13 @@ module _ (sheet out : List ℕ) where
       go : Dec (sheetRefusal sheet ≡ 0) → listLeft sheet out ≡ out
       go (yes fine) = simp (eq-eqb (sheetRefusal sheet) 0 fine) (list-refused-leaves (tableOf sheet) out (λ e. broken (next-of _ fine ∙ e)) .2)
       go (no bad) = simp (ne-eqb (sheetRefusal sheet) 0 bad)
+
+-- `fq_replay`: "0 with the counts"; refused, the output stays as it was. That 11 comes exactly where the replay is not refused and there is no room is `no-room` of Replayed.antt
+module _ (sheet log out : List ℕ) where
+  pub replay-said : Said (replayedRefusal sheet log out) 0 (replayNumber sheet log out)
+  unfolding replayNumber
+  replay-said = said _ 0
+
+  pub replay-left : ((replayedRefusal sheet log out ≡ 0 → ⊥) → replayLeft sheet log out ≡ out) × (replayedRefusal sheet log out ≡ 0 → replayLeft sheet log out ≡ countNumbers (replayAnswer sheet log .counts) ++ drop 7 out)
+  unfolding replayLeft
+  replay-left = (λ broken. simp (ne-eqb (replayedRefusal sheet log out) 0 broken), λ fine. simp (eq-eqb (replayedRefusal sheet log out) 0 fine))

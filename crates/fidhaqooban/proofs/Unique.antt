@@ -5,7 +5,7 @@ use mathlib.Core.List.{List}
 use lib.IntN.{ℤ}
 use Rattle.sheet.specs.Rules.{sheetRefusal}
 use Rattle.sheet.proofs.Unique.{both}
-use Rattle.fidhaqooban.specs.Answers.{writeNumber, writeLeft, rewriteNumber, rewriteLeft, recordNumber, responseNumber, verdictNumber, intervalNumber, nextNumber, listNumber, listLeft}
+use Rattle.fidhaqooban.specs.Answers.{writeNumber, writeLeft, rewriteNumber, rewriteLeft, recordNumber, responseNumber, verdictNumber, intervalNumber, nextNumber, listNumber, listLeft, replayNumber, replayLeft}
 
 pub fq-judge-unique : (sheet : List ℕ) (a b : ℕ) → a ≡ sheetRefusal sheet → b ≡ sheetRefusal sheet → a ≡ b
 fq-judge-unique sheet a b = both
@@ -37,3 +37,7 @@ fq-next-unique sheet after a b = both
 pub fq-list-unique : (sheet out : List ℕ) (a b : ℤ) (left left′ : List ℕ)
     → (a ≡ listNumber sheet out) × (left ≡ listLeft sheet out) → (b ≡ listNumber sheet out) × (left′ ≡ listLeft sheet out) → (a ≡ b) × (left ≡ left′)
 fq-list-unique sheet out a b left left′ p q = (both (p .0) (q .0), both (p .1) (q .1))
+
+pub fq-replay-unique : (sheet log out : List ℕ) (a b : ℤ) (left left′ : List ℕ)
+    → (a ≡ replayNumber sheet log out) × (left ≡ replayLeft sheet log out) → (b ≡ replayNumber sheet log out) × (left′ ≡ replayLeft sheet log out) → (a ≡ b) × (left ≡ left′)
+fq-replay-unique sheet log out a b left left′ p q = (both (p .0) (q .0), both (p .1) (q .1))

@@ -14,7 +14,8 @@ use Rattle.analysis.specs.Answers.{ownTasks, leastInterval}
 use Rattle.choices.specs.Choices.{passingOf}
 use Rattle.choices.specs.Order.{afterOf}
 use Rattle.choices.specs.Answers.{walkRefusal, listRefusal, listLeaves}
-use Rattle.fidhaqooban.specs.Numbers.{answerOf, givenTable, entriesOf, choiceOf}
+use Rattle.replay.specs.Answers.{replayRefusal, replayAnswer}
+use Rattle.fidhaqooban.specs.Numbers.{answerOf, givenTable, entriesOf, choiceOf, countNumbers}
 
 -- `fq_write`: "bytes written"
 unfoldable pub writeNumber : ℕ → ℕ → List ℕ → List ℕ → ℤ
@@ -76,3 +77,15 @@ listNumber sheet out = answerOf (listingRefusal sheet out) (length (passingOf (t
 -- what it leaves in the output: every passing choice and then the bytes as they were, or all as it was
 unfoldable pub listLeft : List ℕ → List ℕ → List ℕ
 listLeft sheet out = cond (eqb (sheetRefusal sheet) 0) (listLeaves (tableOf sheet) out) out
+
+-- the refusal of `fq_replay`: the replay's, then 11, where the output has no room for seven numbers
+unfoldable pub replayedRefusal : List ℕ → List ℕ → List ℕ → ℕ
+replayedRefusal sheet log out = orElse (replayRefusal sheet log) (cond (ltb (length out) 7) 11 0)
+
+-- `fq_replay`: "0 with the counts", or minus the refusal
+unfoldable pub replayNumber : List ℕ → List ℕ → List ℕ → ℤ
+replayNumber sheet log out = answerOf (replayedRefusal sheet log out) 0
+
+-- what it leaves in the output: the counts and then the numbers as they were, or all as it was
+unfoldable pub replayLeft : List ℕ → List ℕ → List ℕ → List ℕ
+replayLeft sheet log out = cond (eqb (replayedRefusal sheet log out) 0) (countNumbers (replayAnswer sheet log .counts) ++ drop 7 out) out

@@ -1,7 +1,7 @@
--- Tables, choices, times and answers as the numbers that pass between C and the desk.
+-- Tables, choices, times, counts and answers as the numbers that pass between C and the desk.
 use Prim.Native.Nat.{ℕ, _+_, _*_, min}
 use mathlib.Core.Bool.{cond}
-use mathlib.Core.List.{List}
+use mathlib.Core.List.{List, [], _∷_}
 use lib.Dec.{eqb}
 use lib.IntN.{ℤ, pos, negℤ}
 use lib.ListN.{getD, take, replicate}
@@ -9,6 +9,7 @@ use Rattle.sheet.specs.declared.Record.{Record}
 use Rattle.sheet.specs.declared.Table.{Table}
 use Rattle.sheet.specs.Packing.{packed, unpacked}
 use Rattle.sheet.specs.Layout.{room}
+use Rattle.replay.specs.declared.Counts.{Counts}
 use Rattle.analysis.specs.declared.Outcome.{Outcome}
 use Rattle.analysis.specs.declared.Outcome.the-variants.{OnTime, Late}
 
@@ -56,3 +57,7 @@ entriesOf choice = unpacked (replicate 8 4) choice
 -- the number of a choice
 unfoldable pub choiceOf : List ℕ → ℕ
 choiceOf entries = packed (replicate 8 4) entries
+
+-- the seven counts in the header's order
+unfoldable pub countNumbers : Counts → List ℕ
+countNumbers c = c .«first_attempts» ∷ c .backups ∷ c .idle ∷ c .released ∷ c .finished ∷ c .missed ∷ c .unfinished ∷ []

@@ -2,7 +2,7 @@
 // Each function is thin: it reads the sheet, asks the crate that answers, and turns the answer into a number.
 ghost use mathlib.Core.Path.{_≡_};
 ghost use Rattle.sheet.specs.Rules.{sheetRefusal};
-ghost use Rattle.fidhaqooban.specs.Answers.{writeNumber, writeLeft, rewriteNumber, rewriteLeft, recordNumber, responseNumber, verdictNumber, intervalNumber, nextNumber, listNumber, listLeft};
+ghost use Rattle.fidhaqooban.specs.Answers.{writeNumber, writeLeft, rewriteNumber, rewriteLeft, recordNumber, responseNumber, verdictNumber, intervalNumber, nextNumber, listNumber, listLeft, replayNumber, replayLeft};
 use analysis::Interval;
 use choices::Arrival;
 use choices::Walk;
@@ -136,4 +136,21 @@ pub extern "C" fn fq_list(sheet: &[u8], out: &mut [u8]) -> i64
     let table = reading.table;
     let listing = choices::list(table, out);
     numbers::answer(listing.refusal, listing.entries)
+}
+
+// Replays a log: 0, with its seven counts at the start of the output.
+#[no_mangle]
+pub extern "C" fn fq_replay(sheet: &[u8], log: &[u8], counts: &mut [u64]) -> i64
+    ensures { λ r. ⌜ (r ≡ replayNumber (now (sheet .entry)) (now (log .entry)) (now (counts .entry))) × (now (counts .exit) ≡ replayLeft (now (sheet .entry)) (now (log .entry)) (now (counts .entry))) ⌝ }
+{
+    let replayed = replay::replay(sheet, log);
+    if replayed.refusal != 0 {
+        return numbers::answer(replayed.refusal, 0);
+    }
+    if counts.len() < 7 {
+        return numbers::answer(11, 0);
+    }
+    let counted = replayed.counts;
+    numbers::put_counts(counted, counts);
+    numbers::answer(0, 0)
 }

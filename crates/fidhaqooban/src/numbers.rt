@@ -1,9 +1,12 @@
-// Tables, choices, times and answers as the numbers of C.
+// Tables, choices, times, counts and answers as the numbers of C.
 ghost use mathlib.Core.Path.{_≡_};
-ghost use Prim.Native.Nat.{_<_, _^_};
+ghost use Prim.Native.Nat.{_≤_, _<_, _^_};
+ghost use lib.ListN.{length};
+ghost use lib.Seq.{sets};
 ghost use Rattle.choices.specs.Stepping.{small};
-ghost use Rattle.fidhaqooban.specs.Numbers.{answerOf, numberAt, byteOf, givenRecord, tableFrom, givenTable, timeOf, entriesOf, choiceOf};
+ghost use Rattle.fidhaqooban.specs.Numbers.{answerOf, numberAt, byteOf, givenRecord, tableFrom, givenTable, timeOf, entriesOf, choiceOf, countNumbers};
 use analysis::Outcome;
+use replay::Counts;
 use sheet::Record;
 use sheet::Table;
 
@@ -117,4 +120,18 @@ pub fn choice_of(entries: [u8; 8]) -> u32
         place += 1;
     }
     choice
+}
+
+// Puts seven counts at the start of an output that has room.
+pub fn put_counts(counts: Counts, out: &mut [u64])
+    requires { ⌜ 7 ≤ length (now out) ⌝ }
+    ensures { λ _. ⌜ now (out .exit) ≡ sets (now (out .entry)) 0 (countNumbers counts) ⌝ }
+{
+    out[0] = counts.first_attempts;
+    out[1] = counts.backups;
+    out[2] = counts.idle;
+    out[3] = counts.released;
+    out[4] = counts.finished;
+    out[5] = counts.missed;
+    out[6] = counts.unfinished;
 }

@@ -18,22 +18,22 @@ use Rattle.sheet.specs.Broken.{Row, row, Broken, NoneBroken, FirstBroken
 use Rattle.sheet.proofs.Tells.{Tells, holds, fails, ltb-tells, eqb-tells, not-tells, or-tells, outside-tells, some-tells}
 
 -- what a number says of rows: it is 0 and none is broken, or it is that of the first one broken
-data Says (rows : List Row) : ℕ → Type 0 where
+pub data Says (rows : List Row) : ℕ → Type 0 where
   none : NoneBroken rows → Says rows 0
   first : {r : ℕ} → FirstBroken rows r → Says rows r
 
 -- the number r says it of the rows, and their numbers lie above low and go up to high
-record Judged (rows : List Row) (low high r : ℕ) : Type 0 where
-  wide : low ≤ high
-  numbers : (e : ℕ) → Broken rows e → (low < e) × (e ≤ high)
-  says : Says rows r
+pub record Judged (rows : List Row) (low high r : ℕ) : Type 0 where
+  pub wide : low ≤ high
+  pub numbers : (e : ℕ) → Broken rows e → (low < e) × (e ≤ high)
+  pub says : Says rows r
 
 -- 0 says it of no rows
-judged-none : {k : ℕ} → Judged [] k k 0
+pub judged-none : {k : ℕ} → Judged [] k k 0
 judged-none = record { wide = omega arith; numbers = λ e b. absurd b; says = none (λ e b. b) }
 
 -- a test in front of the number adds a row in front of the rows
-judged-row : {rows : List Row} {P : Type 0} {b : Bool} {low number high r : ℕ} → low < number → Tells P b → Judged rows number high r → Judged (row number P ∷ rows) low high (cond b number r)
+pub judged-row : {rows : List Row} {P : Type 0} {b : Bool} {low number high r : ℕ} → low < number → Tells P b → Judged rows number high r → Judged (row number P ∷ rows) low high (cond b number r)
 judged-row {rows} {P} {number} l t j =
     record {
       wide = omega arith;
@@ -72,7 +72,7 @@ record-judged n at k =
     (judged-row (omega arith) (outside-tells (at k .«fault_priority») (at k .priority)) judged-none))))
 
 -- what a number says of the rows of the places below n: it is 0 and none is broken, or it is that of the first one broken, place after place
-data SaysBelow (n : ℕ) (rows : ℕ → List Row) : ℕ → Type 0 where
+pub data SaysBelow (n : ℕ) (rows : ℕ → List Row) : ℕ → Type 0 where
   none-below : ((k : ℕ) → k < n → NoneBroken (rows k)) → SaysBelow n rows 0
   first-below : {r : ℕ} → FirstRecord n rows r → SaysBelow n rows r
 
@@ -81,7 +81,7 @@ else-first : (q r : ℕ) → 0 < q → orElse q r ≡ q
 unfolding orElse
 else-first q r h = rw (ne-eqb q 0 (λ e. omega arith))
 
-module _ (rows : ℕ → List Row) (refusal : ℕ → ℕ) (each : (k : ℕ) → Judged (rows k) 5 10 (refusal k)) where
+module _ (rows : ℕ → List Row) (refusal : ℕ → ℕ) (low high : ℕ) (each : (k : ℕ) → Judged (rows k) low high (refusal k)) where
   -- a number that says it of the places below n, or else the one that says it of place n, says it of the places below n + 1
   says-next : (n : ℕ) {q r : ℕ} → SaysBelow n rows q → Says (rows n) r → SaysBelow (suc n) rows (orElse q r)
   unfolding orElse
@@ -92,7 +92,7 @@ module _ (rows : ℕ → List Row) (refusal : ℕ → ℕ) (each : (k : ℕ) →
       (first-below (record { place = w .place; below = omega arith; first = w .first; none-before = w .none-before }))
 
   -- the first refusal below n says it of the places below n
-  says-below : (n : ℕ) → SaysBelow n rows (firstBelow refusal n)
+  pub says-below : (n : ℕ) → SaysBelow n rows (firstBelow refusal n)
   unfolding firstBelow
   says-below zero = none-below (λ k l. omega arith)
   says-below (suc n) = says-next n (says-below n) (each n .says)
@@ -105,7 +105,7 @@ first-unique {q} {r} f g =
     omega arith
 
 -- only one rule is the first one broken, place after place
-record-unique : {n : ℕ} {rows : ℕ → List Row} {q r : ℕ} → FirstRecord n rows q → FirstRecord n rows r → q ≡ r
+pub record-unique : {n : ℕ} {rows : ℕ → List Row} {q r : ℕ} → FirstRecord n rows q → FirstRecord n rows r → q ≡ r
 record-unique {rows} {q} {r} v w =
     let not-below : v .place < w .place → ⊥ = λ l. w .none-before (v .place) l q (v .first .broken) in
     let not-above : w .place < v .place → ⊥ = λ l. v .none-before (w .place) l r (w .first .broken) in
@@ -113,7 +113,7 @@ record-unique {rows} {q} {r} v w =
     first-unique (v .first) (subst (λ (k : ℕ). FirstBroken (rows k) r) same (w .first))
 
 -- two statements that both fail are equivalent
-neither : {A B : Type 0} → (A → ⊥) → (B → ⊥) → A ↔ B
+pub neither : {A B : Type 0} → (A → ⊥) → (B → ⊥) → A ↔ B
 neither f g = (λ a. absurd (f a), λ b. absurd (g b))
 
 -- where one number says it of rules 1 to 5 and another of the places below n, the first or else the second is given in the table's order
@@ -147,7 +147,7 @@ in-order {n} {places} low high (none f) (first-below {r = r} w) =
 -- a number that says it of rules 1 to 5, or else the records' refusal, is given in the table's order
 records-in-order : {rows : List Row} {q : ℕ} → Judged rows 0 5 q → (n : ℕ) (at : ℕ → Record) → InOrder rows n (recordRows n at) (orElse q (recordsRefusal n at))
 unfolding recordsRefusal
-records-in-order j n at = in-order (j .numbers) (λ k. record-judged n at k .numbers) (j .says) (says-below (recordRows n at) (recordRefusal n at) (record-judged n at) n)
+records-in-order j n at = in-order (j .numbers) (λ k. record-judged n at k .numbers) (j .says) (says-below (recordRows n at) (recordRefusal n at) 5 10 (record-judged n at) n)
 
 -- a sheet's refusal is given in the table's order
 pub sheet-in-order : (sheet : List ℕ) → InOrder (sheetRows sheet) (countOf sheet) (recordRows (countOf sheet) (sheetRecord sheet)) (sheetRefusal sheet)

@@ -17,12 +17,12 @@ pub data Tells (P : Type 0) : Bool → Type 0 where
   fails : (P → ⊥) → Tells P false
 
 -- a test tells a proposition that holds where it is true and fails where it is false
-tells : {P : Type 0} (b : Bool) → (b ≡ true → P) → (b ≡ false → P → ⊥) → Tells P b
+pub tells : {P : Type 0} (b : Bool) → (b ≡ true → P) → (b ≡ false → P → ⊥) → Tells P b
 tells true yes-if no-if = holds (yes-if refl)
 tells false yes-if no-if = fails (no-if refl)
 
 -- a test that tells a proposition tells any equivalent one
-tells-iff : {P Q : Type 0} {b : Bool} → (P → Q) → (Q → P) → Tells P b → Tells Q b
+pub tells-iff : {P Q : Type 0} {b : Bool} → (P → Q) → (Q → P) → Tells P b → Tells Q b
 tells-iff f g (holds p) = holds (f p)
 tells-iff f g (fails n) = fails (λ q. n (g q))
 

@@ -1,0 +1,38 @@
+/* A sheet as the baseline reads it: a table indexed by priority. */
+#ifndef READING_H
+#define READING_H
+
+#include <stddef.h>
+#include <stdint.h>
+
+#define MOST_TASKS 8
+#define HEADER_BYTES 3
+#define RECORD_BYTES 9
+
+/* One task; its priority is its index in the table. */
+struct record {
+    uint16_t cost;
+    uint16_t backup;
+    uint16_t deadline;
+    uint16_t period;
+    uint8_t fault_priority;
+};
+
+/* A good sheet: the tasks by priority (entry 0 is unused), and the priority found at each place. */
+struct table {
+    unsigned count;
+    uint32_t interval;
+    uint8_t priority_at[MOST_TASKS];
+    struct record records[MOST_TASKS + 1];
+};
+
+/* Writes a number as two bytes, the first byte highest. */
+void write_number(uint8_t *bytes, uint32_t number);
+
+/* Reads a whole sheet, and answers the first rule that it breaks, or 0. */
+uint8_t read_sheet(const uint8_t *sheet, size_t len, struct table *table);
+
+/* Writes the sheet of a table. */
+void write_sheet(const struct table *table, uint8_t *out);
+
+#endif

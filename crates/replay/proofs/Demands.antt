@@ -1,0 +1,197 @@
+-- Ask 1's demands in its own words, about the definitions that the promises cite. That a log's refusal is the first rule broken, read over positions in the log, is `replay-in-order`; the log of ask 3 is in Rows.antt. Assumes nothing.
+use Prim.Native.Nat.{ℕ, _+_, _/_, _%_, _^_, _≤_, _<_}
+use mathlib.Core.Path.{_≡_, refl, sym, ap, _∙_}
+use mathlib.Core.Bool.{Bool, true, false, cond, true≢false}
+use mathlib.Core.Logic.{_↔_}
+use mathlib.Core.List.{List, [], _∷_, _++_}
+use native.Mathlib.Omega.{arith}
+use borrow.Author.Tests.{eq-eqb, ne-eqb}
+use lib.Dec.{eqb}
+use lib.ListN.{length, replicate, getD-replicate, length-append}
+use Rattle.sheet.specs.Layout.{recordAt, tableOf}
+use Rattle.sheet.specs.Rules.{sheetRefusal}
+use Rattle.sheet.proofs.Turns.{next-of, none-of, first-of}
+use Rattle.sheet.specs.declared.Record.{Record}
+use Rattle.replay.specs.declared.Cell.{Cell}
+use Rattle.replay.specs.declared.Tally.{Tally}
+use Rattle.replay.specs.declared.Counts.{Counts}
+use Rattle.replay.specs.declared.Machine.{Machine}
+use Rattle.replay.specs.Tick.{isReleased, isMarked}
+use Rattle.replay.specs.Cells.{noCell, cellAt, isReady}
+use Rattle.replay.specs.Runner.{levelOf}
+use Rattle.replay.specs.Step.{runs, worked, struck}
+use Rattle.replay.specs.Counts.{noTally, added, unfinishedIn, countsFrom}
+use Rattle.replay.specs.Machines.{machineOf, noMachine, cellsEntered, runnerOf, cellsRan, tick, ranOver, countsOf}
+use Rattle.replay.specs.Rules.{ticksRefusal, logRefusal}
+use Rattle.replay.specs.Answers.{startAnswer, goOnAnswer, replayRefusal, replayAnswer}
+use Rattle.replay.specs.Totals.{totalsOver}
+use Rattle.replay.specs.Positions.{releasesAt, tickRows, LogInOrder}
+use Rattle.replay.proofs.Struck.{others-kept, runner-changed}
+use Rattle.replay.proofs.Joined.{accepted, ran-joined, ticks-joined, refusal-joined}
+use Rattle.replay.proofs.Going.{even-ticks}
+use Rattle.replay.proofs.Answered.{replay-gone}
+use Rattle.replay.proofs.Ordered.{GoesFirst, runs-first, idle-none, none-idle}
+use Rattle.replay.proofs.Added.{Below, widen, tally-wraps, totals-small, added-exact, ticks-add-up}
+use Rattle.replay.proofs.Counted.{count-none}
+use Rattle.replay.proofs.Placed.{faults-small, task-good, OfTable, task-of-sheet}
+use Rattle.replay.proofs.Kept.{GoodTasks, AllTimely, jobs-add-up}
+use Rattle.replay.proofs.Ticked.{ran-at}
+use Rattle.replay.proofs.Countdown.{reaches}
+use Rattle.replay.proofs.History.{machineAt, rest-counts, job-in-time}
+use Rattle.replay.proofs.Order.{log-in-order}
+
+-- Which job runs, in a machine whose fault priorities are at most 8, as those of every sheet are (`levels-started`)
+module _ (m : Machine) (releases : ℕ) (levels : (place : ℕ) → recordAt (m .tasks) place .«fault_priority» ≤ 8) where
+  -- "the ready job of the highest present level runs one tick .. At one level backups go before first attempts, and of two backups the task with the higher own priority goes first": the job that runs is ready, and goes before every other ready job
+  pub runner-goes-first : (place : ℕ) → runnerOf m releases ≡ place + 1 → GoesFirst (recordAt (m .tasks)) (cellAt (cellsEntered m releases)) place
+  unfolding runnerOf
+  runner-goes-first place e = runs-first (recordAt (m .tasks)) (cellAt (cellsEntered m releases)) levels place e
+
+  -- nothing runs exactly if nothing is ready
+  pub idle-exactly : (runnerOf m releases ≡ 0) ↔ ((place : ℕ) → place < 8 → isReady (cellAt (cellsEntered m releases) place) ≡ false)
+  unfolding runnerOf
+  idle-exactly = (idle-none (recordAt (m .tasks)) (cellAt (cellsEntered m releases)) levels, none-idle (recordAt (m .tasks)) (cellAt (cellsEntered m releases)) levels)
+
+-- the tasks of a machine never change
+pub tasks-stay : (m : Machine) (log : List ℕ) → ranOver m log .tasks ≡ m .tasks
+unfolding ranOver tick
+tasks-stay m [] = refl
+tasks-stay m (r ∷ []) = refl
+tasks-stay m (r ∷ f ∷ log) = tasks-stay (tick m r f) log
+
+pub levels-started : (sheet log : List ℕ) → sheetRefusal sheet ≡ 0 → (place : ℕ) → recordAt (ranOver (machineOf (tableOf sheet)) log .tasks) place .«fault_priority» ≤ 8
+levels-started sheet log good place = rw (tasks-stay (machineOf (tableOf sheet)) log) (faults-small sheet good place)
+
+-- a job with its whole backup left, at its task's fault priority
+pub record WholeBackup (task : Record) (place : ℕ) (cell : Cell) : Type 0 where
+  pub backup : cell .«is_backup» ≡ true
+  pub whole : cell .left ≡ task .backup
+  pub level : levelOf task place cell ≡ task .«fault_priority»
+
+module _ (m : Machine) (releases faults place : ℕ) (below : place < 8) where
+  -- "then a fault, if marked, throws that job's work away, even if complete, and puts its full backup at its fault priority": whatever was left of the job, and whether it was a first attempt or a backup
+  pub struck-whole : isMarked faults ≡ true → runnerOf m releases ≡ place + 1 → WholeBackup (recordAt (m .tasks) place) place (cellAt (cellsRan m releases faults) place)
+  unfolding runs levelOf
+  struck-whole marked e =
+      let task = recordAt (m .tasks) place in
+      let job = worked (cellAt (cellsEntered m releases) place) in
+      let now : cellAt (cellsRan m releases faults) place ≡ struck task job =
+      ran-at m releases faults place below ∙ runner-changed (recordAt (m .tasks)) (isMarked faults) (runnerOf m releases) (cellAt (cellsEntered m releases)) place (eq-eqb (place + 1) (runnerOf m releases) (sym e))
+      ∙ ap (λ (b : Bool). cond b (struck task job) job) marked in
+      record { backup = ap (λ (c : Cell). c .«is_backup») now; whole = ap (λ (c : Cell). c .left) now; level = ap (levelOf task place) now }
+
+  -- "A fault in an idle tick does nothing."
+  pub idle-untouched : runnerOf m releases ≡ 0 → cellAt (cellsRan m releases faults) place ≡ cellAt (cellsEntered m releases) place
+  unfolding runs
+  idle-untouched e = ran-at m releases faults place below ∙ others-kept (recordAt (m .tasks)) (isMarked faults) (runnerOf m releases) (cellAt (cellsEntered m releases)) place (ne-eqb (place + 1) (runnerOf m releases) (λ h. omega arith))
+
+-- two parts one after the other give what their joining gives: going on over the second from where an accepted first part led
+pub parts-joined : (m : Machine) (a b : List ℕ) → logRefusal m a ≡ 0 → goOnAnswer (goOnAnswer m a .machine) b ≡ goOnAnswer m (a ++ b)
+unfolding goOnAnswer
+parts-joined m a b passed =
+    let first = accepted m a passed in
+    let refusal = sym (refusal-joined m a b (first .0) (first .1)) in
+    let machine = sym (ran-joined m a b (first .0)) in
+    ap (λ (n : ℕ). goOnAnswer (cond (eqb n 0) (ranOver m a) noMachine) b) passed
+    ∙ (λ i. record { refusal = refusal i; machine = cond (eqb (refusal i) 0) (machine i) noMachine })
+
+-- and a first part of even length that is refused gives the refusal of the whole, where that has even length
+pub refused-joined : (m : Machine) (a b : List ℕ) → length a % 2 ≡ 0 → length b % 2 ≡ 0 → (logRefusal m a ≡ 0 → ⊥) → goOnAnswer m a ≡ goOnAnswer m (a ++ b)
+unfolding goOnAnswer
+refused-joined m a b even even′ broken =
+    let bad : ticksRefusal m a ≡ 0 → ⊥ = λ e. broken (even-ticks m a even ∙ e) in
+    let same : logRefusal m (a ++ b) ≡ logRefusal m a = even-ticks m (a ++ b) (omega (arith, length-append a b)) ∙ ticks-joined m a b even ∙ first-of (ticksRefusal m a) (ticksRefusal (ranOver m a) b) bad ∙ sym (even-ticks m a even) in
+    simp (same, ne-eqb (logRefusal m a) 0 broken)
+
+-- a replay is a start, a going on over the whole log, and the counts of where that led
+pub replay-by-parts : (sheet log : List ℕ) → sheetRefusal sheet ≡ 0
+    → replayAnswer sheet log ≡ record { refusal = goOnAnswer (startAnswer sheet .machine) log .refusal; counts = countsOf (goOnAnswer (startAnswer sheet .machine) log .machine) }
+unfolding startAnswer
+replay-by-parts sheet log good = sym (replay-gone sheet log (startAnswer sheet) refl good (goOnAnswer (startAnswer sheet .machine) log) refl _ refl)
+
+started-free : (place : ℕ) → place < 8 → cellAt (replicate 8 noCell) place ≡ noCell
+unfolding cellAt
+started-free place below = getD-replicate 8 place noCell noCell below
+
+nothing-ready : isReady noCell ≡ false
+unfolding isReady
+nothing-ready = refl
+
+-- "Refusals, after a sheet's": a sheet that is refused decides
+pub sheet-first : (sheet log : List ℕ) → (sheetRefusal sheet ≡ 0 → ⊥) → replayRefusal sheet log ≡ sheetRefusal sheet
+unfolding replayRefusal
+sheet-first sheet log broken = first-of (sheetRefusal sheet) (logRefusal (machineOf (tableOf sheet)) log) broken
+
+module _ (sheet log : List ℕ) (good : sheetRefusal sheet ≡ 0) where
+  -- "14 odd length, then tick by tick 15 .. 16 .. 17": over a good sheet the refusal is the first rule broken, in the first tick that breaks one, read over positions in the log
+  pub replay-in-order : LogInOrder log (tickRows (tableOf sheet .count) (tableOf sheet .interval) (recordAt (machineOf (tableOf sheet) .tasks)) log) (replayRefusal sheet log)
+  unfolding machineOf replayRefusal
+  replay-in-order =
+      rw (next-of (logRefusal (machineOf (tableOf sheet)) log) good) (log-in-order (machineOf (tableOf sheet)) log (λ place below. ap (λ (c : Cell). c .wait) (started-free place below)) refl)
+
+  -- and the task that the rules find at a place is the sheet's record of that priority
+  pub tasks-by-priority : (place : ℕ) → place < tableOf sheet .count → OfTable (tableOf sheet) place (recordAt (machineOf (tableOf sheet) .tasks) place)
+  tasks-by-priority = task-of-sheet sheet good
+
+-- "A job still unfinished when its D-th tick, the release tick being the first, ends is dropped": a job that is there before the tick at a time was released less than D ticks before it
+pub job-within-deadline : (sheet log : List ℕ) (place : ℕ) → place < 8 → (time : ℕ) → isReady (cellAt (machineAt (machineOf (tableOf sheet)) log time .cells) place) ≡ true
+    → (release : ℕ) × (release < time) × (isReleased (releasesAt log release) place ≡ true) × (time < release + recordAt (machineOf (tableOf sheet) .tasks) place .deadline)
+unfolding machineOf
+job-within-deadline sheet log place below time ready =
+    let m = machineOf (tableOf sheet) in
+    let none : isReady (cellAt (m .cells) place) ≡ false = ap isReady (started-free place below) ∙ nothing-ready in
+    let rest = rest-counts m log place below (ap (λ (c : Cell). c .rest) (started-free place below)) time in
+    let some = reaches (λ t. isReleased (releasesAt log t) place) (recordAt (m .tasks) place .deadline) time 0 .0 (omega (arith, rest, job-in-time m log place below none time ready)) in
+    (some .0, some .1, some .2, omega (arith, some .3))
+
+-- The counts of a log that is accepted
+module _ (sheet log : List ℕ) (passed : replayRefusal sheet log ≡ 0) where
+  abbrev start : Machine
+  start = machineOf (tableOf sheet)
+
+  abbrev counts : Counts
+  counts = replayAnswer sheet log .counts
+
+  sheet-passed : sheetRefusal sheet ≡ 0
+  unfolding replayRefusal
+  sheet-passed = none-of (sheetRefusal sheet) (logRefusal start log) passed .0
+
+  log-passed : logRefusal start log ≡ 0
+  unfolding replayRefusal
+  log-passed = none-of (sheetRefusal sheet) (logRefusal start log) passed .1
+
+  start-small : Below (2 ^ 64) (start .tally)
+  unfolding machineOf
+  start-small = record { «first_attempts» = omega arith; backups = omega arith; idle = omega arith; released = omega arith; finished = omega arith; missed = omega arith }
+
+  -- on 64 bits: the true totals' remainders by 2 ^ 64, beside the jobs that have work left
+  pub counts-wrap : counts ≡ countsFrom (added noTally (totalsOver start log)) (unfinishedIn (ranOver start log .cells))
+  unfolding replayAnswer countsOf machineOf
+  counts-wrap = simp passed (ap (λ (t : Tally). countsFrom t (unfinishedIn (ranOver start log .cells))) (tally-wraps start log start-small))
+
+  module _ (short : length log < 2 ^ 61) where
+    -- below 2 ^ 61 bytes they are the true counts
+    pub counts-true : counts ≡ countsFrom (totalsOver start log) (unfinishedIn (ranOver start log .cells))
+    counts-true = counts-wrap ∙ ap (λ (t : Tally). countsFrom t (unfinishedIn (ranOver start log .cells))) (added-exact (totalsOver start log) (widen (totals-small start log) (omega arith)))
+
+    -- "ticks of first attempts, backups and idling (together all ticks)"
+    pub ticks-together : counts .«first_attempts» + counts .backups + counts .idle ≡ length log / 2
+    unfolding countsFrom
+    ticks-together = ap (λ (c : Counts). c .«first_attempts» + c .backups + c .idle) counts-true ∙ ticks-add-up start log
+
+    good-tasks : GoodTasks start
+    unfolding machineOf
+    good-tasks = record { each = task-good sheet sheet-passed; levels = faults-small sheet sheet-passed }
+
+    none-ready : (place : ℕ) → place < 8 → isReady (cellAt (start .cells) place) ≡ false
+    unfolding machineOf
+    none-ready place below = ap isReady (started-free place below) ∙ nothing-ready
+
+    -- "jobs released and, adding up to them, finished, missed and unfinished"
+    pub jobs-together : counts .finished + counts .missed + counts .unfinished ≡ counts .released
+    unfolding countsFrom unfinishedIn
+    jobs-together =
+        let timely : AllTimely start = λ place below ready. absurd (true≢false (sym ready ∙ none-ready place below)) in
+        let none = count-none (λ place. isReady (cellAt (start .cells) place)) 8 none-ready in
+        let jobs = jobs-add-up start log good-tasks timely (accepted start log log-passed .1) in
+        ap (λ (c : Counts). c .finished + c .missed + c .unfinished) counts-true ∙ omega (arith, jobs, none) ∙ sym (ap (λ (c : Counts). c .released) counts-true)

@@ -1,0 +1,125 @@
+-- A machine tick by tick along a log: the refusal is the first of the ticks' refusals, and its waits and gap are countdowns of what the log marks. Assumes nothing.
+use Prim.Native.Nat.{ℕ, zero, suc, _+_, _-_, _*_, _≤_, _<_}
+use mathlib.Core.Path.{_≡_, refl, sym, ap, ap₂, fun-ext, _∙_}
+use mathlib.Core.Bool.{true, false, cond, true≢false}
+use mathlib.Core.List.{List, [], _∷_}
+use native.Mathlib.Decide.{ℕ-discrete}
+use native.Mathlib.Omega.{arith}
+use lib.ListN.{getD}
+use Rattle.sheet.specs.declared.Record.{Record}
+use Rattle.sheet.specs.Places.{orElse, firstBelow}
+use Rattle.sheet.specs.Layout.{recordAt}
+use Rattle.sheet.proofs.Turns.{next-of, first-of}
+use Rattle.replay.specs.declared.Machine.{Machine}
+use Rattle.replay.specs.Tick.{isReleased, isMarked}
+use Rattle.replay.specs.Cells.{cellAt, isReady}
+use Rattle.replay.specs.Step.{gapAfter}
+use Rattle.replay.specs.Machines.{tick}
+use Rattle.replay.specs.Rules.{tickRefusal, ticksRefusal}
+use Rattle.replay.specs.Positions.{ticksOf, releasesAt, faultsAt}
+use Rattle.replay.proofs.Ticked.{wait-after, rest-after, none-left}
+use Rattle.replay.proofs.Joined.{else-joined}
+use Rattle.replay.proofs.Countdown.{countdown}
+
+-- the machine before the tick at a time
+unfoldable pub machineAt : Machine → List ℕ → ℕ → Machine
+machineAt m log zero = m
+machineAt m log (suc time) = tick (machineAt m log time) (releasesAt log time) (faultsAt log time)
+
+-- the refusal of the tick at a time
+abbrev pub refusalAt : Machine → List ℕ → ℕ → ℕ
+refusalAt m log time = tickRefusal (machineAt m log time) (releasesAt log time) (faultsAt log time)
+
+module _ (r f : ℕ) (log : List ℕ) where
+  releases-shift : (time : ℕ) → releasesAt (r ∷ f ∷ log) (suc time) ≡ releasesAt log time
+  unfolding releasesAt
+  releases-shift time =
+      let twice : 2 * suc time ≡ suc (suc (2 * time)) = omega arith in
+      ap (λ (n : ℕ). getD (r ∷ f ∷ log) n 0) twice
+
+  faults-shift : (time : ℕ) → faultsAt (r ∷ f ∷ log) (suc time) ≡ faultsAt log time
+  unfolding faultsAt
+  faults-shift time =
+      let twice : 2 * suc time + 1 ≡ suc (suc (2 * time + 1)) = omega arith in
+      ap (λ (n : ℕ). getD (r ∷ f ∷ log) n 0) twice
+
+  module _ (m : Machine) where
+    machine-shift : (time : ℕ) → machineAt m (r ∷ f ∷ log) (suc time) ≡ machineAt (tick m r f) log time
+    unfolding machineAt releasesAt faultsAt
+    machine-shift zero = refl
+    machine-shift (suc time) = λ i. tick (machine-shift time i) (releases-shift time i) (faults-shift time i)
+
+    refusal-shift : (time : ℕ) → refusalAt m (r ∷ f ∷ log) (suc time) ≡ refusalAt (tick m r f) log time
+    refusal-shift time = λ i. tickRefusal (machine-shift time i) (releases-shift time i) (faults-shift time i)
+
+    refusal-zero : refusalAt m (r ∷ f ∷ log) 0 ≡ tickRefusal m r f
+    unfolding machineAt releasesAt faultsAt
+    refusal-zero = refl
+
+-- the first refusal, from the first place on
+first-shift : (refusal : ℕ → ℕ) (n : ℕ) → firstBelow refusal (suc n) ≡ orElse (refusal 0) (firstBelow (λ k. refusal (suc k)) n)
+unfolding firstBelow
+first-shift refusal zero = next-of (refusal 0) refl ∙ sym (else-none (refusal 0))
+  where
+    else-none : (x : ℕ) → orElse x 0 ≡ x
+    else-none x = go (ℕ-discrete x 0)
+      where
+        go : Dec (x ≡ 0) → orElse x 0 ≡ x
+        go (yes e) = next-of 0 e ∙ sym e
+        go (no e) = first-of x 0 e
+first-shift refusal (suc n) = ap (λ (x : ℕ). orElse x (refusal (suc n))) (first-shift refusal n) ∙ else-joined (refusal 0) (firstBelow (λ k. refusal (suc k)) n) (refusal (suc n))
+
+-- "tick by tick"
+pub ticks-first : (m : Machine) (log : List ℕ) → ticksRefusal m log ≡ firstBelow (refusalAt m log) (ticksOf log)
+unfolding ticksRefusal firstBelow
+ticks-first m [] = refl
+ticks-first m (r ∷ []) = refl
+ticks-first m (r ∷ f ∷ log) =
+    let one-more : suc (ticksOf log) ≡ ticksOf (r ∷ f ∷ log) = omega arith in
+    ap₂ orElse (sym (refusal-zero r f log m)) (ticks-first (tick m r f) log ∙ ap (λ (t : ℕ → ℕ). firstBelow t (ticksOf log)) (sym (fun-ext (refusal-shift r f log m))))
+    ∙ sym (first-shift (refusalAt m (r ∷ f ∷ log)) (ticksOf log)) ∙ ap (firstBelow (refusalAt m (r ∷ f ∷ log))) one-more
+
+module _ (m : Machine) (log : List ℕ) where
+  tasks-same : (time : ℕ) → machineAt m log time .tasks ≡ m .tasks
+  unfolding machineAt tick
+  tasks-same zero = refl
+  tasks-same (suc time) = tasks-same time
+
+  pub count-same : (time : ℕ) → machineAt m log time .count ≡ m .count
+  unfolding machineAt tick
+  count-same zero = refl
+  count-same (suc time) = count-same time
+
+  interval-same : (time : ℕ) → machineAt m log time .interval ≡ m .interval
+  unfolding machineAt tick
+  interval-same zero = refl
+  interval-same (suc time) = interval-same time
+
+  -- where no release is to be waited for at first, each wait counts down from the task's own releases
+  pub wait-counts : (place : ℕ) → place < 8 → cellAt (m .cells) place .wait ≡ 0 → (time : ℕ)
+      → cellAt (machineAt m log time .cells) place .wait ≡ countdown (λ t. isReleased (releasesAt log t) place) (recordAt (m .tasks) place .period) time
+  unfolding machineAt countdown
+  wait-counts place below free zero = free
+  wait-counts place below free (suc time) =
+      wait-after (machineAt m log time) (releasesAt log time) (faultsAt log time) place below
+      ∙ ap₂ (λ (tasks : List Record) (wait : ℕ). cond (isReleased (releasesAt log time) place) (recordAt tasks place .period) wait - 1) (tasks-same time) (wait-counts place below free time)
+
+  pub gap-counts : m .gap ≡ 0 → (time : ℕ) → machineAt m log time .gap ≡ countdown (λ t. isMarked (faultsAt log t)) (m .interval) time
+  unfolding machineAt countdown tick gapAfter
+  gap-counts free zero = free
+  gap-counts free (suc time) = ap₂ (λ (interval gap : ℕ). cond (isMarked (faultsAt log time)) interval gap - 1) (interval-same time) (gap-counts free time)
+
+  -- and so do the ticks until each deadline
+  pub rest-counts : (place : ℕ) → place < 8 → cellAt (m .cells) place .rest ≡ 0 → (time : ℕ)
+      → cellAt (machineAt m log time .cells) place .rest ≡ countdown (λ t. isReleased (releasesAt log t) place) (recordAt (m .tasks) place .deadline) time
+  unfolding machineAt countdown
+  rest-counts place below free zero = free
+  rest-counts place below free (suc time) =
+      rest-after (machineAt m log time) (releasesAt log time) (faultsAt log time) place below
+      ∙ ap₂ (λ (tasks : List Record) (rest : ℕ). cond (isReleased (releasesAt log time) place) (recordAt tasks place .deadline) rest - 1) (tasks-same time) (rest-counts place below free time)
+
+  -- a job that is there between two ticks is before its deadline
+  pub job-in-time : (place : ℕ) → place < 8 → isReady (cellAt (m .cells) place) ≡ false → (time : ℕ) → isReady (cellAt (machineAt m log time .cells) place) ≡ true → 1 ≤ cellAt (machineAt m log time .cells) place .rest
+  unfolding machineAt
+  job-in-time place below none zero ready = absurd (true≢false (sym ready ∙ none))
+  job-in-time place below none (suc time) ready = none-left (machineAt m log time) (releasesAt log time) (faultsAt log time) place below ready

@@ -1,0 +1,22 @@
+-- Laws that belong to no one function: places and bits; the machine's phases and who runs; logs; counts; what the calls answer; the demands.
+pub mod Turns
+pub mod Found
+pub mod Counted
+pub mod Binary
+pub mod Eight
+pub mod Struck
+pub mod Chosen
+pub mod Ordered
+pub mod Ticked
+pub mod Going
+pub mod Joined
+pub mod Countdown
+pub mod History
+pub mod Order
+pub mod Placed
+pub mod Kept
+pub mod Added
+pub mod Answered
+pub mod Rows
+pub mod Unique
+pub mod Demands

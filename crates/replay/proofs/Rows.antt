@@ -1,0 +1,41 @@
+-- Ask 3's log tick by tick, by computation: "In the log all are released at 0, the fault falls in the fourth tick, the second task comes again at 7, and the first finishes at 12." Assumes nothing.
+use Prim.Native.Nat.{ℕ}
+use mathlib.Core.Path.{_≡_, refl}
+use mathlib.Core.List.{List, [], _∷_}
+use lib.ListN.{take}
+use Rattle.sheet.specs.Places.{orElse, firstBelow, someBelow, filledBelow}
+use Rattle.sheet.specs.Packing.{regrouped}
+use Rattle.sheet.specs.Layout.{headerOf, countOf, reservedOf, intervalOf, sizeOf, partOf, recordFrom, recordOf, sheetRecord, recordAt, room, tableOf}
+use Rattle.sheet.specs.Rules.{outside, taken, refusalOf, recordRefusal, recordsRefusal, headerRefusal, sheetRefusal}
+use Rattle.replay.specs.Tick.{isReleased, isAbove, isMarked, hasOther}
+use Rattle.replay.specs.Cells.{cellAt, eight, isReady, oneIf, countBelow}
+use Rattle.replay.specs.Runner.{highest, levelOf, isAt, topLevel, topBackup, runner}
+use Rattle.replay.specs.Step.{entered, runs, ran, faulted, isLast, isMissed, ended, gapAfter}
+use Rattle.replay.specs.Counts.{cellOf, gains, added, unfinishedIn, countsFrom}
+use Rattle.replay.specs.Machines.{withPriority, byPriority, machineOf, cellsEntered, runnerOf, cellsRan, tickGains, tick, ranOver, countsOf}
+use Rattle.replay.specs.Rules.{isStrange, isEarly, someEarly, isHasty, tickRefusal, ticksRefusal, logRefusal}
+use Rattle.replay.specs.Answers.{replayRefusal, replayAnswer}
+
+-- "Tasks (C, B, D, T, p, q): 4 4 100 100 3 1; 2 1 7 7 2 2; 1 1 100 100 1 1; E = 100."
+unfoldable pub sheet : List ℕ
+sheet =
+    0x30 ∷ 0 ∷ 100 ∷ 0 ∷ 4 ∷ 0 ∷ 4 ∷ 0 ∷ 100 ∷ 0 ∷ 100 ∷ 0x31 ∷ 0 ∷ 2 ∷ 0 ∷ 1 ∷ 0 ∷ 7 ∷ 0 ∷ 7 ∷ 0x22 ∷ 0 ∷ 1 ∷ 0 ∷ 1 ∷ 0 ∷ 100 ∷ 0 ∷ 100 ∷ 0x11 ∷ []
+
+-- twelve ticks
+unfoldable pub log : List ℕ
+log =
+    7 ∷ 0 ∷ 0 ∷ 0 ∷ 0 ∷ 0 ∷ 0 ∷ 128 ∷ 0 ∷ 0 ∷ 0 ∷ 0 ∷ 0 ∷ 0 ∷ 2 ∷ 0 ∷ 0 ∷ 0 ∷ 0 ∷ 0 ∷ 0 ∷ 0 ∷ 0 ∷ 0 ∷ []
+
+-- the ticks of work that the first task, of priority 3, has left after so many bytes of the log
+unfoldable pub leftAfter : ℕ → ℕ
+leftAfter bytes = cellAt (ranOver (machineOf (tableOf sheet)) (take bytes log) .cells) 2 .left
+
+-- the seven counts of the twelve ticks
+pub log-counts : replayAnswer sheet log ≡ record { refusal = 0; counts = record { «first_attempts» = 8; backups = 4; idle = 0; released = 4; finished = 3; missed = 0; unfinished = 1 } }
+unfolding sheet log orElse firstBelow someBelow filledBelow regrouped headerOf countOf reservedOf intervalOf sizeOf partOf recordFrom recordOf sheetRecord recordAt room tableOf outside taken refusalOf recordRefusal recordsRefusal headerRefusal sheetRefusal isReleased isAbove isMarked hasOther cellAt eight isReady oneIf countBelow highest levelOf isAt topLevel topBackup runner entered runs ran faulted isLast isMissed ended gapAfter cellOf gains added unfinishedIn countsFrom withPriority byPriority machineOf cellsEntered runnerOf cellsRan tickGains tick ranOver countsOf isStrange isEarly someEarly isHasty tickRefusal ticksRefusal logRefusal replayRefusal replayAnswer
+log-counts = refl
+
+-- "the first finishes at 12": it has one tick left after eleven, and none after twelve
+pub first-done : (leftAfter 22 ≡ 1) × (leftAfter 24 ≡ 0)
+unfolding leftAfter sheet log someBelow filledBelow regrouped headerOf countOf intervalOf partOf recordFrom recordOf sheetRecord recordAt room tableOf isReleased isMarked cellAt eight isReady oneIf countBelow highest levelOf isAt topLevel topBackup runner entered runs ran faulted isLast isMissed ended gapAfter cellOf gains added withPriority byPriority machineOf cellsEntered runnerOf cellsRan tickGains tick ranOver
+first-done = (refl, refl)

@@ -1,0 +1,23 @@
+-- Each public call's promise leaves one answer: any two that it admits are equal. Assumes nothing.
+use Prim.Native.Nat.{ℕ}
+use mathlib.Core.Path.{_≡_}
+use mathlib.Core.List.{List}
+use Rattle.sheet.proofs.Unique.{both}
+use Rattle.replay.specs.declared.Counts.{Counts}
+use Rattle.replay.specs.declared.Machine.{Machine}
+use Rattle.replay.specs.declared.Run.{Run}
+use Rattle.replay.specs.declared.Replayed.{Replayed}
+use Rattle.replay.specs.Machines.{countsOf}
+use Rattle.replay.specs.Answers.{startAnswer, goOnAnswer, replayAnswer}
+
+pub Machine-start-unique : (sheet : List ℕ) (a b : Run) → a ≡ startAnswer sheet → b ≡ startAnswer sheet → a ≡ b
+Machine-start-unique sheet a b = both
+
+pub Machine-go-on-unique : (m : Machine) (part : List ℕ) (a b : Run) → a ≡ goOnAnswer m part → b ≡ goOnAnswer m part → a ≡ b
+Machine-go-on-unique m part a b = both
+
+pub Machine-counts-unique : (m : Machine) (a b : Counts) → a ≡ countsOf m → b ≡ countsOf m → a ≡ b
+Machine-counts-unique m a b = both
+
+pub replay-unique : (sheet log : List ℕ) (a b : Replayed) → a ≡ replayAnswer sheet log → b ≡ replayAnswer sheet log → a ≡ b
+replay-unique sheet log a b = both

@@ -1,0 +1,74 @@
+-- The machine: as a sheet's table sets it up, after one tick, and after a log. It holds no absolute time.
+use Prim.Native.Nat.{ℕ, zero, suc, _+_}
+use mathlib.Core.Bool.{cond}
+use mathlib.Core.List.{List, [], _∷_}
+use lib.Dec.{eqb}
+use lib.ListN.{replicate}
+use Rattle.sheet.specs.declared.Record.{Record}
+use Rattle.sheet.specs.declared.Table.{Table}
+use Rattle.sheet.specs.Places.{filledBelow}
+use Rattle.sheet.specs.Layout.{noRecord, recordAt}
+use Rattle.replay.specs.declared.Cell.{Cell}
+use Rattle.replay.specs.declared.Tally.{Tally}
+use Rattle.replay.specs.declared.Counts.{Counts}
+use Rattle.replay.specs.declared.Machine.{Machine}
+use Rattle.replay.specs.Tick.{isMarked}
+use Rattle.replay.specs.Cells.{noCell, cellAt, eight}
+use Rattle.replay.specs.Runner.{runner}
+use Rattle.replay.specs.Step.{entered, ran, faulted, ended, gapAfter}
+use Rattle.replay.specs.Counts.{gains, noTally, added, unfinishedIn, countsFrom}
+
+-- the record of a priority among the first n, or one of zeros
+unfoldable pub withPriority : (ℕ → Record) → ℕ → ℕ → Record
+withPriority at priority zero = noRecord
+withPriority at priority (suc n) = cond (eqb (at n .priority) priority) (at n) (withPriority at priority n)
+
+-- the records by priority: place k has the record of priority k + 1
+unfoldable pub byPriority : List Record → List Record
+byPriority records = filledBelow (λ place. withPriority (recordAt records) (place + 1) 8) 8 (replicate 8 noRecord)
+
+-- the machine of a table before the first tick: no job, and every first release and fault is legal
+unfoldable pub machineOf : Table → Machine
+machineOf t = record { count = t .count; interval = t .interval; tasks = byPriority (t .records); cells = replicate 8 noCell; gap = 0; tally = noTally }
+
+-- a machine of zeros
+abbrev pub noMachine : Machine
+noMachine = record { count = 0; interval = 0; tasks = replicate 8 noRecord; cells = replicate 8 noCell; gap = 0; tally = noTally }
+
+-- "Each tick: releases come in"
+unfoldable pub cellsEntered : Machine → ℕ → List Cell
+cellsEntered m releases = eight (entered (recordAt (m .tasks)) releases (cellAt (m .cells)))
+
+-- the priority of the task that runs in the tick, 0 for idling
+unfoldable pub runnerOf : Machine → ℕ → ℕ
+runnerOf m releases = runner (recordAt (m .tasks)) (cellAt (cellsEntered m releases))
+
+-- "the ready job of the highest present level runs one tick, then a fault, if marked, throws that job's work away"
+unfoldable pub cellsRan : Machine → ℕ → ℕ → List Cell
+cellsRan m releases faults = eight (faulted (recordAt (m .tasks)) (isMarked faults) (runnerOf m releases) (ran (runnerOf m releases) (cellAt (cellsEntered m releases))))
+
+-- what the tick adds to the counts
+unfoldable pub tickGains : Machine → ℕ → ℕ → Tally
+tickGains m releases faults = gains releases (runnerOf m releases) (cellsEntered m releases) (cellsRan m releases faults)
+
+-- the machine after one tick
+unfoldable pub tick : Machine → ℕ → ℕ → Machine
+tick m releases faults =
+    record {
+      count = m .count;
+      interval = m .interval;
+      tasks = m .tasks;
+      cells = eight (λ place. ended (cellAt (cellsRan m releases faults) place));
+      gap = gapAfter (m .interval) (isMarked faults) (m .gap);
+      tally = added (m .tally) (tickGains m releases faults);
+    }
+
+-- the machine after the ticks of a log
+unfoldable pub ranOver : Machine → List ℕ → Machine
+ranOver m [] = m
+ranOver m (releases ∷ []) = m
+ranOver m (releases ∷ faults ∷ log) = ranOver (tick m releases faults) log
+
+-- the seven counts of a machine
+unfoldable pub countsOf : Machine → Counts
+countsOf m = countsFrom (m .tally) (unfinishedIn (m .cells))

@@ -1,0 +1,25 @@
+-- What the ticks of a log add to the counts as plain numbers, without a bound. The theorems about the counts speak of them; no public promise does.
+use Prim.Native.Nat.{ℕ, _+_}
+use mathlib.Core.List.{List, [], _∷_}
+use Rattle.replay.specs.declared.Tally.{Tally}
+use Rattle.replay.specs.declared.Machine.{Machine}
+use Rattle.replay.specs.Counts.{noTally}
+use Rattle.replay.specs.Machines.{tickGains, tick}
+
+-- two tallies added
+unfoldable pub plus : Tally → Tally → Tally
+plus a b =
+    record {
+      «first_attempts» = a .«first_attempts» + b .«first_attempts»;
+      backups = a .backups + b .backups;
+      idle = a .idle + b .idle;
+      released = a .released + b .released;
+      finished = a .finished + b .finished;
+      missed = a .missed + b .missed;
+    }
+
+-- what all ticks of a log add
+unfoldable pub totalsOver : Machine → List ℕ → Tally
+totalsOver m [] = noTally
+totalsOver m (releases ∷ []) = noTally
+totalsOver m (releases ∷ faults ∷ log) = plus (tickGains m releases faults) (totalsOver (tick m releases faults) log)

@@ -1,0 +1,148 @@
+// Replay of the box's log: the machine tick by tick, the rules that a log is judged by, and the seven counts.
+// Every call answers any bytes and any machine; a refusal gives its number, and zeros beside it.
+ghost use mathlib.Core.Path.{_≡_};
+ghost use Rattle.replay.specs.Machines.{countsOf};
+ghost use Rattle.replay.specs.Answers.{startAnswer, goOnAnswer, replayAnswer};
+use sheet::Record;
+
+mod bits;
+mod counting;
+mod phases;
+mod rules;
+mod runner;
+mod ticking;
+
+// The cell of a place: whether its job is a backup, the ticks of work that the job has left (0: there is no job), the ticks until its
+// deadline, and the ticks until the next legal release.
+pub struct Cell {
+    pub is_backup: bool,
+    pub left: u16,
+    pub rest: u16,
+    pub wait: u16,
+}
+
+// What the ticks so far come to.
+pub struct Tally {
+    pub first_attempts: u64,
+    pub backups: u64,
+    pub idle: u64,
+    pub released: u64,
+    pub finished: u64,
+    pub missed: u64,
+}
+
+// The seven counts: ticks of first attempts, backups and idling; jobs released, finished, missed and unfinished.
+pub struct Counts {
+    pub first_attempts: u64,
+    pub backups: u64,
+    pub idle: u64,
+    pub released: u64,
+    pub finished: u64,
+    pub missed: u64,
+    pub unfinished: u64,
+}
+
+// The machine between two ticks: the count of tasks, the fault interval, the tasks by priority (place k is priority k + 1), the cells of
+// the places, the ticks until the next legal fault, and what the ticks so far come to.
+pub struct Machine {
+    pub count: u8,
+    pub interval: u16,
+    pub tasks: [Record; 8],
+    pub cells: [Cell; 8],
+    pub gap: u16,
+    pub tally: Tally,
+}
+
+// What `start` and `go_on` answer: the refusal, or 0 beside the machine.
+pub struct Run {
+    pub refusal: u8,
+    pub machine: Machine,
+}
+
+// What `replay` answers: the refusal, or 0 beside the counts.
+pub struct Replayed {
+    pub refusal: u8,
+    pub counts: Counts,
+}
+
+impl Machine {
+    // The machine of a good sheet before the first tick.
+    pub fn start(sheet: &[u8]) -> Run
+        ensures { λ r. ⌜ r ≡ startAnswer (now (sheet .entry)) ⌝ }
+    {
+        let reading = sheet::read(sheet);
+        let refusal = reading.refusal;
+        if refusal != 0 {
+            return Run {
+                refusal,
+                machine: ticking::no_machine(),
+            };
+        }
+        let table = reading.table;
+        Run {
+            refusal: 0,
+            machine: ticking::machine_of(table),
+        }
+    }
+
+    // The machine after a further part of a log.
+    pub fn go_on(self, part: &[u8]) -> Run
+        ensures { λ r. ⌜ r ≡ goOnAnswer self (now (part .entry)) ⌝ }
+    {
+        if part.len() % 2 != 0 {
+            return Run {
+                refusal: 14,
+                machine: ticking::no_machine(),
+            };
+        }
+        let mut machine = self;
+        let mut at: usize = 0;
+        while at < part.len() {
+            let releases = part[at];
+            let faults = part[at + 1];
+            let refusal = rules::judge_tick(machine, releases, faults);
+            if refusal != 0 {
+                return Run {
+                    refusal,
+                    machine: ticking::no_machine(),
+                };
+            }
+            machine = ticking::tick(machine, releases, faults);
+            at += 2;
+        }
+        Run {
+            refusal: 0,
+            machine,
+        }
+    }
+
+    // The seven counts of the ticks so far.
+    pub fn counts(self) -> Counts
+        ensures { λ r. ⌜ r ≡ countsOf self ⌝ }
+    {
+        let tally = self.tally;
+        let cells = self.cells;
+        counting::counts_of(tally, counting::unfinished(cells))
+    }
+}
+
+// The counts of a whole log.
+pub fn replay(sheet: &[u8], log: &[u8]) -> Replayed
+    ensures { λ r. ⌜ r ≡ replayAnswer (now (sheet .entry)) (now (log .entry)) ⌝ }
+{
+    let started = Machine::start(sheet);
+    let refusal = started.refusal;
+    let machine = started.machine;
+    if refusal != 0 {
+        return Replayed {
+            refusal,
+            counts: machine.counts(),
+        };
+    }
+    let run = machine.go_on(log);
+    let last = run.machine;
+    Replayed {
+        refusal: run.refusal,
+        counts: last.counts(),
+    }
+}

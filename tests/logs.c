@@ -1,0 +1,75 @@
+/* Random logs of a box, good and damaged. */
+#include "logs.h"
+
+#include <stdbool.h>
+
+enum { FAULT_BIT = 128 };
+
+/* True so many times in a hundred. */
+static bool in_hundred(struct generator *generator, unsigned percent)
+{
+    return random_below(generator, 100) < percent;
+}
+
+/* The releases of a tick: each legal one with a chance; what is released has to wait for its period again. */
+static uint8_t draw_releases(struct generator *generator, const struct draft *draft, uint64_t *waits, unsigned chance)
+{
+    unsigned bits = 0;
+    for (unsigned place = 0; place < draft->tasks; place++) {
+        const uint16_t *numbers = draft->numbers[place];
+        if (waits[place] == 0 && in_hundred(generator, chance)) {
+            bits |= 1u << (numbers[PRIORITY] - 1);
+            waits[place] = numbers[PERIOD];
+        }
+        waits[place] -= waits[place] > 0;
+    }
+    return (uint8_t)bits;
+}
+
+/* Draws the ticks one after the other, with chances that make a log dense or sparse. */
+static struct log good_log(struct generator *generator, const struct draft *draft)
+{
+    static const unsigned CHANCES[] = {100, 90, 30, 5};
+    struct log log = {.length = 2 * random_below(generator, LONGEST_LOG + 1)};
+    uint64_t waits[MOST_TASKS] = {0}, gap = 0;
+    unsigned releases = CHANCES[random_below(generator, 4)], faults = CHANCES[random_below(generator, 4)];
+    for (size_t at = 0; at < log.length; at += 2) {
+        log.bytes[at] = draw_releases(generator, draft, waits, releases);
+        if (gap == 0 && in_hundred(generator, faults)) {
+            log.bytes[at + 1] = FAULT_BIT;
+            gap = draft->interval;
+        }
+        gap -= gap > 0;
+    }
+    return log;
+}
+
+/* Damages one random tick of a log, or its length; an empty log stays as it is. */
+struct log random_log(struct generator *generator, const struct draft *draft, enum log_damage damage)
+{
+    struct log log = good_log(generator, draft);
+    if (log.length == 0) {
+        return log;
+    }
+    uint8_t *tick = log.bytes + 2 * random_below(generator, log.length / 2);
+    switch (damage) {
+    case BYTE_CUT:
+        log.length--;
+        break;
+    case STRANGE_BITS:
+        tick[1] |= (uint8_t)(1u << random_below(generator, 7));
+        break;
+    case RELEASE_ADDED:
+        tick[0] |= (uint8_t)(1u << random_below(generator, draft->tasks));
+        break;
+    case FAULT_ADDED:
+        tick[1] |= FAULT_BIT;
+        break;
+    case LOG_BIT_FLIPPED:
+        tick[0] ^= (uint8_t)(1u << random_below(generator, 8));
+        break;
+    default:
+        break;
+    }
+    return log;
+}

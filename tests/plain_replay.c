@@ -1,0 +1,187 @@
+/*
+ * The plain replay: request 1's paragraph sentence by sentence. It keeps the tick at which each thing happened, and looks
+ * for the job that runs by comparing all of them.
+ */
+#include "plain.h"
+
+#include "plain_sheet.h"
+
+#include <stdbool.h>
+#include <string.h>
+
+enum { FIRST_ATTEMPTS, BACKUPS, IDLING, RELEASED, FINISHED, MISSED, UNFINISHED, COUNTS, FAULT_BIT = 128 };
+
+/* A task of the sheet with its job, if it has one that is neither finished nor dropped. */
+struct running {
+    struct record task;
+    bool has_job;
+    bool is_backup;
+    uint64_t left;
+    uint64_t released_at;
+};
+
+/* The task of a priority from 1. */
+static struct record with_priority(const struct table *table, uint64_t priority)
+{
+    size_t place = 0;
+    while (table->records[place].priority != priority) {
+        place++;
+    }
+    return table->records[place];
+}
+
+/* Whether a tick of the log releases the task of a priority. */
+static bool releases(const uint8_t *log, size_t tick, uint64_t priority)
+{
+    return (log[2 * tick] >> (priority - 1)) & 1;
+}
+
+/* Whether a tick of the log is marked with a fault. */
+static bool is_marked(const uint8_t *log, size_t tick)
+{
+    return log[2 * tick + 1] >= FAULT_BIT;
+}
+
+/* Whether a release or a fault comes sooner than so many ticks after the last one, which may not be there. */
+static bool is_early(bool has_last, size_t last, size_t tick, uint64_t distance)
+{
+    return has_last && tick - last < distance;
+}
+
+/* The refusal of a log by rules 14 to 17. */
+static enum refusal judge_log(const struct table *table, const uint8_t *log, size_t log_len)
+{
+    bool was_released[MOST_TASKS + 1] = {false}, was_marked = false;
+    size_t released_at[MOST_TASKS + 1] = {0}, marked_at = 0;
+
+    if (log_len % 2 != 0) {
+        return ODD_LOG;
+    }
+    for (size_t tick = 0; tick < log_len / 2; tick++) {
+        if (log[2 * tick] >> table->count != 0 || log[2 * tick + 1] % FAULT_BIT != 0) {
+            return STRANGE_BIT;
+        }
+        for (uint64_t priority = 1; priority <= table->count; priority++) {
+            uint64_t period = with_priority(table, priority).period;
+            if (!releases(log, tick, priority)) {
+                continue;
+            }
+            if (is_early(was_released[priority], released_at[priority], tick, period)) {
+                return EARLY_RELEASE;
+            }
+            was_released[priority] = true;
+            released_at[priority] = tick;
+        }
+        if (is_marked(log, tick)) {
+            if (is_early(was_marked, marked_at, tick, table->interval)) {
+                return EARLY_FAULT;
+            }
+            was_marked = true;
+            marked_at = tick;
+        }
+    }
+    return GOOD;
+}
+
+/* The level at which a job runs. */
+static uint64_t level_of(const struct running *one)
+{
+    return one->is_backup ? one->task.fault_priority : one->task.priority;
+}
+
+/* Whether one job goes before another. */
+static bool goes_before(const struct running *one, const struct running *other)
+{
+    if (level_of(one) != level_of(other)) {
+        return level_of(one) > level_of(other);
+    }
+    if (one->is_backup != other->is_backup) {
+        return one->is_backup;
+    }
+    return one->task.priority > other->task.priority;
+}
+
+/* The job that runs, or none. */
+static struct running *runner_of(struct running *tasks, size_t count)
+{
+    struct running *first = NULL;
+    for (struct running *one = tasks; one < tasks + count; one++) {
+        if (one->has_job && (first == NULL || goes_before(one, first))) {
+            first = one;
+        }
+    }
+    return first;
+}
+
+/* The job that runs does one tick of its work, which a fault throws away. */
+static void run_one(struct running *one, bool is_struck, uint64_t *counts)
+{
+    counts[one->is_backup ? BACKUPS : FIRST_ATTEMPTS]++;
+    one->left--;
+    if (is_struck) {
+        one->is_backup = true;
+        one->left = one->task.backup;
+    }
+    if (one->left == 0) {
+        one->has_job = false;
+        counts[FINISHED]++;
+    }
+}
+
+/* One tick: releases, the job that runs, the fault, the deadlines. */
+static void run_tick(struct running *tasks, size_t count, const uint8_t *log, size_t tick, uint64_t *counts)
+{
+    for (size_t index = 0; index < count; index++) {
+        struct running *one = &tasks[index];
+        if (releases(log, tick, one->task.priority)) {
+            *one = (struct running){one->task, true, false, one->task.cost, tick};
+            counts[RELEASED]++;
+        }
+    }
+    struct running *first = runner_of(tasks, count);
+    if (first == NULL) {
+        counts[IDLING]++;
+    } else {
+        run_one(first, is_marked(log, tick), counts);
+    }
+    for (struct running *one = tasks; one < tasks + count; one++) {
+        if (one->has_job && tick - one->released_at + 1 == one->task.deadline) {
+            one->has_job = false;
+            counts[MISSED]++;
+        }
+    }
+}
+
+/* The seven counts of a log that is good. */
+static void count_log(const struct table *table, const uint8_t *log, size_t log_len, uint64_t *counts)
+{
+    struct running tasks[MOST_TASKS];
+    for (size_t place = 0; place < table->count; place++) {
+        tasks[place] = (struct running){.task = table->records[place]};
+    }
+    for (size_t tick = 0; tick < log_len / 2; tick++) {
+        run_tick(tasks, table->count, log, tick, counts);
+    }
+    for (size_t place = 0; place < table->count; place++) {
+        counts[UNFINISHED] += tasks[place].has_job;
+    }
+}
+
+/* Replays a log: its counts, or minus the refusal. */
+int64_t plain_replay(const uint8_t *sheet, size_t len, const uint8_t *log, size_t log_len, uint64_t *counts,
+                     size_t counts_len)
+{
+    struct table table;
+    int64_t refusal = refused(sheet, len, &table);
+    if (refusal == 0) {
+        refusal = -(int64_t)judge_log(&table, log, log_len);
+    }
+    if (refusal == 0 && counts_len < COUNTS) {
+        refusal = -OUTPUT_TOO_SHORT;
+    }
+    if (refusal == 0) {
+        memset(counts, 0, COUNTS * sizeof counts[0]);
+        count_log(&table, log, log_len, counts);
+    }
+    return refusal;
+}

@@ -1,0 +1,149 @@
+/* Sheets as the plain desk reads, judges and writes them. */
+#include "plain_sheet.h"
+
+/* Takes the next bits of the bytes, most significant first, and moves the position past them. */
+static uint64_t take_bits(const uint8_t *bytes, size_t *position, unsigned width)
+{
+    uint64_t value = 0;
+    for (unsigned taken = 0; taken < width; taken++) {
+        unsigned bit = (bytes[*position / 8] >> (7 - *position % 8)) & 1;
+        value = value * 2 + bit;
+        *position += 1;
+    }
+    return value;
+}
+
+/* Puts a value of so many bits at the position, most significant first, and moves the position past it. */
+void put_bits(uint8_t *bytes, size_t *position, unsigned width, uint64_t value)
+{
+    for (unsigned left = width; left > 0; left--) {
+        unsigned mask = 1u << (7 - *position % 8);
+        unsigned byte = bytes[*position / 8] & ~mask;
+        if ((value >> (left - 1)) & 1) {
+            byte |= mask;
+        }
+        bytes[*position / 8] = (uint8_t)byte;
+        *position += 1;
+    }
+}
+
+/* The refusal of one record by rules 6 to 10, in that order. */
+static enum refusal judge_record(const struct table *table, size_t place)
+{
+    const struct record *own = &table->records[place];
+    if (own->cost == 0 || own->cost > own->deadline) {
+        return BAD_COST;
+    }
+    if (own->backup == 0 || own->backup > own->deadline) {
+        return BAD_BACKUP;
+    }
+    if (own->deadline > own->period) {
+        return BAD_DEADLINE;
+    }
+    if (own->priority < 1 || own->priority > table->count) {
+        return BAD_PRIORITY;
+    }
+    for (size_t earlier = 0; earlier < place; earlier++) {
+        if (table->records[earlier].priority == own->priority) {
+            return BAD_PRIORITY;
+        }
+    }
+    if (own->fault_priority < 1 || own->fault_priority > own->priority) {
+        return BAD_FAULT_PRIORITY;
+    }
+    return GOOD;
+}
+
+/* The refusal of a table by rules 2 and 5 to 10. */
+enum refusal judge_table(const struct table *table)
+{
+    if (table->count == 0 || table->count > MOST_TASKS) {
+        return BAD_COUNT;
+    }
+    if (table->interval == 0) {
+        return NO_INTERVAL;
+    }
+    for (size_t place = 0; place < table->count; place++) {
+        enum refusal refusal = judge_record(table, place);
+        if (refusal != GOOD) {
+            return refusal;
+        }
+    }
+    return GOOD;
+}
+
+/* Takes the records of a sheet whose length is right. */
+static void take_records(const uint8_t *sheet, size_t *position, struct table *table)
+{
+    for (size_t place = 0; place < table->count; place++) {
+        struct record *own = &table->records[place];
+        own->cost = take_bits(sheet, position, 16);
+        own->backup = take_bits(sheet, position, 16);
+        own->deadline = take_bits(sheet, position, 16);
+        own->period = take_bits(sheet, position, 16);
+        own->priority = take_bits(sheet, position, 4);
+        own->fault_priority = take_bits(sheet, position, 4);
+    }
+}
+
+/* Reads a sheet into a table, or gives its refusal by rules 1 to 10. */
+enum refusal read_sheet(const uint8_t *sheet, size_t len, struct table *table)
+{
+    if (len < HEADER_BYTES) {
+        return TOO_SHORT;
+    }
+    size_t position = 0;
+    table->count = take_bits(sheet, &position, 4);
+    uint64_t reserved = take_bits(sheet, &position, 4);
+    table->interval = take_bits(sheet, &position, 16);
+    if (table->count == 0 || table->count > MOST_TASKS) {
+        return BAD_COUNT;
+    }
+    if (reserved != 0) {
+        return RESERVED_BIT;
+    }
+    if (len != HEADER_BYTES + RECORD_BYTES * table->count) {
+        return BAD_LENGTH;
+    }
+    take_records(sheet, &position, table);
+    return judge_table(table);
+}
+
+/* Reads a sheet into a table: 0, or minus the refusal. */
+int64_t refused(const uint8_t *sheet, size_t len, struct table *table)
+{
+    return -(int64_t)read_sheet(sheet, len, table);
+}
+
+/* The same for the record at a place of the sheet. */
+int64_t refused_at(const uint8_t *sheet, size_t len, size_t place, struct table *table)
+{
+    int64_t refusal = refused(sheet, len, table);
+    if (refusal == 0 && place >= table->count) {
+        return -NO_SUCH_RECORD;
+    }
+    return refusal;
+}
+
+/* Writes a good table where there is room for it; the answer is that of plain_write and plain_rewrite. */
+int64_t write_table(const struct table *table, uint8_t *out, size_t out_len)
+{
+    size_t needed = HEADER_BYTES + RECORD_BYTES * table->count;
+    if (out_len < needed) {
+        return -OUTPUT_TOO_SHORT;
+    }
+    size_t position = 0;
+    put_bits(out, &position, 4, table->count);
+    put_bits(out, &position, 4, 0);
+    put_bits(out, &position, 16, table->interval);
+    for (size_t place = 0; place < table->count; place++) {
+        const struct record *own = &table->records[place];
+        put_bits(out, &position, 16, own->cost);
+        put_bits(out, &position, 16, own->backup);
+        put_bits(out, &position, 16, own->deadline);
+        put_bits(out, &position, 16, own->period);
+        put_bits(out, &position, 4, own->priority);
+        put_bits(out, &position, 4, own->fault_priority);
+    }
+    return (int64_t)needed;
+}

@@ -1,0 +1,68 @@
+/*
+ * Sheets as the plain desk reads, judges and writes them, straight from the text of the rules.
+ */
+#ifndef PLAIN_SHEET_H
+#define PLAIN_SHEET_H
+
+#include <stddef.h>
+#include <stdint.h>
+
+enum { MOST_TASKS = 8, HEADER_BYTES = 3, RECORD_BYTES = 9 };
+
+enum refusal {
+    GOOD = 0,
+    TOO_SHORT = 1,
+    BAD_COUNT = 2,
+    RESERVED_BIT = 3,
+    BAD_LENGTH = 4,
+    NO_INTERVAL = 5,
+    BAD_COST = 6,
+    BAD_BACKUP = 7,
+    BAD_DEADLINE = 8,
+    BAD_PRIORITY = 9,
+    BAD_FAULT_PRIORITY = 10,
+    OUTPUT_TOO_SHORT = 11,
+    NO_SUCH_RECORD = 12,
+    BAD_CHOICE = 13,
+    ODD_LOG = 14,
+    STRANGE_BIT = 15,
+    EARLY_RELEASE = 16,
+    EARLY_FAULT = 17
+};
+
+/* One task as its record gives it. */
+struct record {
+    uint64_t cost;
+    uint64_t backup;
+    uint64_t deadline;
+    uint64_t period;
+    uint64_t priority;
+    uint64_t fault_priority;
+};
+
+/* What a whole sheet says. */
+struct table {
+    uint64_t count;
+    uint64_t interval;
+    struct record records[MOST_TASKS];
+};
+
+/* Puts a value of so many bits at the position, most significant first, and moves the position past it. */
+void put_bits(uint8_t *bytes, size_t *position, unsigned width, uint64_t value);
+
+/* The refusal of a table by rules 2 and 5 to 10. */
+enum refusal judge_table(const struct table *table);
+
+/* Reads a sheet into a table, or gives its refusal by rules 1 to 10. */
+enum refusal read_sheet(const uint8_t *sheet, size_t len, struct table *table);
+
+/* Writes a good table where there is room for it; the answer is that of plain_write and plain_rewrite. */
+int64_t write_table(const struct table *table, uint8_t *out, size_t out_len);
+
+/* Reads a sheet into a table: 0, or minus the refusal. */
+int64_t refused(const uint8_t *sheet, size_t len, struct table *table);
+
+/* The same for the record at a place of the sheet. */
+int64_t refused_at(const uint8_t *sheet, size_t len, size_t place, struct table *table);
+
+#endif

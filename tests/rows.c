@@ -1,0 +1,139 @@
+/*
+ * Runs the rows of tests/rows/ through the library: rows FILE... A row is what is asked, `=` and the answer; bytes are in
+ * hexadecimal, `-` is none, and a line that begins with `#` names the fields. Each row that differs is printed with the
+ * library's answer; the last line counts.
+ */
+#include <fidhaqooban.h>
+
+#include <inttypes.h>
+#include <stdbool.h>
+#include <stdio.h>
+#include <stdlib.h>
+#include <string.h>
+
+enum { LONGEST_LINE = 1 << 16, MOST_WORDS = 16, ANSWER_ROOM = 512 };
+
+/* A row taken apart: what is asked, and how the library answers it. */
+struct row {
+    size_t words;
+    char *word[MOST_WORDS];
+    char answer[ANSWER_ROOM];
+};
+
+/* Bytes read from hexadecimal. */
+struct bytes {
+    size_t length;
+    uint8_t at[LONGEST_LINE / 2];
+};
+
+/* The bytes of a word in hexadecimal; a word that is none ends the program. */
+static void read_bytes(const char *word, struct bytes *bytes)
+{
+    bytes->length = 0;
+    if (strcmp(word, "-") == 0) {
+        return;
+    }
+    for (; word[0] != '\0'; word += 2) {
+        unsigned byte;
+        if (sscanf(word, "%2x", &byte) != 1 || word[1] == '\0') {
+            fprintf(stderr, "no bytes in hexadecimal: %s\n", word);
+            exit(2);
+        }
+        bytes->at[bytes->length] = (uint8_t)byte;
+        bytes->length++;
+    }
+}
+
+/* Adds a number to the answer, after a space if it is not the first. */
+static void add_number(struct row *row, int64_t number)
+{
+    size_t length = strlen(row->answer);
+    snprintf(row->answer + length, ANSWER_ROOM - length, "%s%" PRId64, length == 0 ? "" : " ", number);
+}
+
+/* SHEET LOG: the refusal and the seven counts. */
+static void answer_replay(struct row *row)
+{
+    static struct bytes sheet, log;
+    uint64_t counts[FQ_COUNTS] = {0};
+    read_bytes(row->word[0], &sheet);
+    read_bytes(row->word[1], &log);
+    add_number(row, -fq_replay(sheet.at, sheet.length, log.at, log.length, counts, FQ_COUNTS));
+    for (size_t count = 0; count < FQ_COUNTS; count++) {
+        add_number(row, (int64_t)counts[count]);
+    }
+}
+
+/* What answers the rows of a file, by the end of its name, and how many words are asked. */
+static const struct kind {
+    const char *name;
+    size_t words;
+    void (*answer)(struct row *row);
+} KINDS[] = {
+    {"ask-01-replay.txt", 2, answer_replay},
+};
+
+/* The kind of a file. */
+static const struct kind *kind_of(const char *file)
+{
+    for (size_t index = 0; index < sizeof KINDS / sizeof KINDS[0]; index++) {
+        size_t length = strlen(KINDS[index].name);
+        if (strlen(file) >= length && strcmp(file + strlen(file) - length, KINDS[index].name) == 0) {
+            return &KINDS[index];
+        }
+    }
+    fprintf(stderr, "nothing answers the rows of %s\n", file);
+    exit(2);
+}
+
+/* Runs one line: whether the library's answer is the one after `=`. */
+static bool run_row(const struct kind *kind, char *line)
+{
+    struct row row = {0};
+    char *expected = strstr(line, " = ");
+    line[strcspn(line, "\n")] = '\0';
+    if (expected == NULL) {
+        fprintf(stderr, "no answer in the row %s\n", line);
+        exit(2);
+    }
+    *expected = '\0';
+    expected += strlen(" = ");
+    for (char *word = strtok(line, " "); word != NULL && row.words < MOST_WORDS; word = strtok(NULL, " ")) {
+        row.word[row.words] = word;
+        row.words++;
+    }
+    if (row.words != kind->words) {
+        fprintf(stderr, "%zu words are asked in a row, not %zu\n", row.words, kind->words);
+        exit(2);
+    }
+    kind->answer(&row);
+    if (strcmp(row.answer, expected) == 0) {
+        return true;
+    }
+    printf("differs: %s .. = %s, and the library answers %s\n", row.word[0], expected, row.answer);
+    return false;
+}
+
+/* Runs the rows of each file. */
+int main(int argc, char **argv)
+{
+    static char line[LONGEST_LINE];
+    unsigned long rows = 0, different = 0;
+    for (int index = 1; index < argc; index++) {
+        const struct kind *kind = kind_of(argv[index]);
+        FILE *file = fopen(argv[index], "r");
+        if (file == NULL) {
+            perror(argv[index]);
+            return 2;
+        }
+        while (fgets(line, sizeof line, file) != NULL) {
+            if (line[0] != '#') {
+                rows++;
+                different += !run_row(kind, line);
+            }
+        }
+        fclose(file);
+    }
+    printf("%lu rows of %d files, %lu differ\n", rows, argc - 1, different);
+    return rows == 0 || different != 0;
+}
