@@ -18,6 +18,7 @@ static uint8_t sheet[FQ_SHEET_BYTES];
 static uint8_t output[FQ_LIST_BYTES];
 static const uint8_t log_bytes[] = {255, 128, 0, 0, 0, 0};
 static uint64_t counts[FQ_COUNTS];
+static int32_t figure;
 static size_t length;
 static struct sheet numbers;
 static ucontext_t caller, callee;
@@ -28,6 +29,7 @@ static void write(void) { fq_write(numbers.count, numbers.interval, numbers.fiel
 static void rewrite(void) { fq_rewrite(sheet, length, output, sizeof output); }
 static void record(void) { fq_record(sheet, length, 0); }
 static void response(void) { fq_response(sheet, length, 0); }
+static void slack(void) { fq_slack(sheet, length, 0, &figure, 1); }
 static void verdict(void) { fq_verdict(sheet, length); }
 static void least_interval(void) { fq_least_interval(sheet, length); }
 static void next(void) { fq_next(sheet, length, 0); }
@@ -59,8 +61,8 @@ int main(void)
         void (*call)(void);
     } calls[] = {
         {"fq_judge", judge}, {"fq_write", write}, {"fq_rewrite", rewrite}, {"fq_record", record},
-        {"fq_response", response}, {"fq_verdict", verdict}, {"fq_least_interval", least_interval},
-        {"fq_next", next}, {"fq_list", list}, {"fq_list, no room", short_list}, {"fq_replay", replay},
+        {"fq_response", response}, {"fq_slack", slack}, {"fq_verdict", verdict},
+        {"fq_least_interval", least_interval}, {"fq_next", next}, {"fq_list", list}, {"fq_list, no room", short_list}, {"fq_replay", replay},
     };
     const uint16_t intervals[] = {everyday.interval, 1};
     size_t empty = depth(nothing);

@@ -19,6 +19,16 @@ static const uint16_t numbers[COUNT * FQ_RECORD_NUMBERS] = {
     1, 1, 35, 35, 1, 1,
 };
 
+/* Prints that a task is late, and by how much where there is a figure. */
+static void print_late(const uint8_t *sheet, size_t length, size_t place)
+{
+    int32_t slack;
+    if (fq_slack(sheet, length, place, &slack, 1) == 1)
+        printf("task %zu: late, slack %" PRId32 "\n", place + 1, slack);
+    else
+        printf("task %zu: late, and no response time up to 65535\n", place + 1);
+}
+
 /* Prints each task's response time, or that it is late. A negative answer is neither: it is a refusal. */
 static void print_responses(const uint8_t *sheet, size_t length)
 {
@@ -27,7 +37,7 @@ static void print_responses(const uint8_t *sheet, size_t length)
         if (time < 0)
             printf("task %zu: refused by rule %" PRId64 "\n", place + 1, -time);
         else if (time == 0)
-            printf("task %zu: late\n", place + 1);
+            print_late(sheet, length, place);
         else
             printf("task %zu: %" PRId64 " ticks\n", place + 1, time);
     }

@@ -17,7 +17,7 @@
  * Memory and time: no heap, no state, no call of anything outside the library; FQ_STACK_BYTES bounds the stack.
  * The x86-64 code uses the SSE registers, so whoever calls it where these are not saved (a kernel, an
  * interrupt handler) saves them first. fq_judge, fq_write, fq_rewrite and fq_record take about a microsecond;
- * fq_response and fq_verdict microseconds to milliseconds; fq_least_interval, fq_next and fq_list judge up to
+ * fq_response, fq_slack and fq_verdict microseconds to milliseconds; fq_least_interval, fq_next and fq_list judge up to
  * 65535 intervals or 40320 choices and CAN TAKE MINUTES on a sheet of eight tasks (docs/PERFORMANCE.md).
  *
  * Build the library with `rt staticlib fidhaqooban` and link target/staticlib/libfidhaqooban.a (x86-64).
@@ -33,7 +33,7 @@ extern "C" {
 #endif
 
 /* The version of this header and library; `./desk --version` prints the same. */
-#define FQ_VERSION "1.1.0"
+#define FQ_VERSION "1.2.0"
 
 /*
  * What a refused call gives, in the order in which the rules are tried: the number of the first rule broken,
@@ -113,6 +113,15 @@ int64_t fq_record(const uint8_t *sheet, size_t len, size_t place);
  * the refusal (1 to 10, 12).
  */
 int64_t fq_response(const uint8_t *sheet, size_t len, size_t place);
+
+/*
+ * The slack of the record at a place (from 0): its deadline less its worst-case response time, which is
+ * searched for up to 65535. It is negative where the task is late and 0 at an exact fit.
+ * Answer: 1 with the slack in out[0]; 0 where there is no response time up to 65535, so no figure, and the
+ * task is late; or minus the refusal (1 to 10, 12, and last 11 where out_len is 0). `out` changes in the first
+ * case only. `out_len` is how many numbers have room.
+ */
+int64_t fq_slack(const uint8_t *sheet, size_t len, size_t place, int32_t *out, size_t out_len);
 
 /* 1 where the sheet passes (no task is late), 0 where it does not, or minus the refusal (1 to 10). */
 int64_t fq_verdict(const uint8_t *sheet, size_t len);

@@ -197,6 +197,25 @@ int64_t check_response(struct comparison *comparison, size_t place)
     return check_place(comparison, "fq_response", fq_response, plain_response, place);
 }
 
+/* Compares the slack at a place, in an output with room for so many figures. */
+int64_t check_slack(struct comparison *comparison, size_t place, size_t out_len)
+{
+    int32_t before[SLACKS_ROOM], library[SLACKS_ROOM], plain[SLACKS_ROOM];
+    const uint8_t *sheet = laid(comparison);
+    struct call call = {.function = "fq_slack", .argument = place};
+    random_bytes(&comparison->generator, (uint8_t *)before, sizeof before);
+    memcpy(library, before, sizeof before);
+    memcpy(plain, before, sizeof before);
+    call.library = fq_slack(sheet, comparison->sheet_length, place, library + 1, out_len);
+    call.plain = plain_slack(sheet, comparison->sheet_length, place, plain + 1, out_len);
+    settle_call(comparison, &call);
+    settle(comparison, &call, "slack", memcmp(library, plain, sizeof library) == 0);
+    if (call.plain != 1) {
+        settle(comparison, &call, "output without a figure", memcmp(library, before, sizeof before) == 0);
+    }
+    return call.plain;
+}
+
 /* Compares the library's answer to a question about the whole sheet with the expected one. */
 static void check_whole(struct comparison *comparison, const char *function, uint64_t argument,
                         int64_t library, int64_t expected)

@@ -16,7 +16,8 @@ enum {
     LENT_ROOM = FQ_LIST_BYTES + 64,
     INPUT_ROOM = SHEET_ROOM + 2 * MARGIN,
     ARENA_ROOM = LENT_ROOM + 2 * MARGIN,
-    COUNTS_ROOM = 16
+    COUNTS_ROOM = 16,
+    SLACKS_ROOM = 4
 };
 
 /* The kinds of rounds. */
@@ -60,6 +61,7 @@ int64_t check_write(struct comparison *comparison, const struct writing *writing
 int64_t check_rewrite(struct comparison *comparison, size_t out_len);
 int64_t check_record(struct comparison *comparison, size_t place);
 int64_t check_response(struct comparison *comparison, size_t place);
+int64_t check_slack(struct comparison *comparison, size_t place, size_t out_len);
 int64_t check_verdict(struct comparison *comparison);
 int64_t check_least_interval(struct comparison *comparison);
 int64_t check_next(struct comparison *comparison, uint32_t after);

@@ -60,8 +60,8 @@ static void print_tally(const struct comparison *comparison, const struct tally 
     for (unsigned refusal = FIRST_OF_LOGS; refusal < REPLAY_JUDGEMENTS; refusal++) {
         printf(", %u: %" PRIu64, refusal, tally->replayed[refusal]);
     }
-    printf("\nleast intervals of none: %" PRIu64 ", listed choices: %" PRIu64 "\n",
-           tally->least_intervals_of_none, tally->listed_choices);
+    printf("\nslacks with a figure: %" PRIu64 ", least intervals of none: %" PRIu64 ", listed choices: %" PRIu64 "\n",
+           tally->figures, tally->least_intervals_of_none, tally->listed_choices);
     printf("%" PRIu64 " codec sheets, %" PRIu64 " analysis sheets (%" PRIu64 " pass, %" PRIu64 " do not), ",
            tally->codec_sheets, tally->analysis_sheets, tally->passing, tally->late);
     printf("%" PRIu64 " least intervals, %" PRIu64 " lists (%" PRIu64 " of eight tasks), %" PRIu64 " logs, ",

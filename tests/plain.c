@@ -13,6 +13,7 @@ enum {
     ENTRY_BYTES = 4,
     MOST_CHOICES = 40320,
     LONGEST_INTERVAL = 65535,
+    LONGEST_TIME = 65535,
     HIGHEST_WRITTEN_PRIORITY = 255,
     NO_TIME = 0,
     NOBODY = MOST_TASKS
@@ -66,10 +67,11 @@ static uint64_t cost_above(const struct table *table, uint64_t level, size_t lef
 /* What a length has to be at least, of a record and of the length of a stage before. */
 typedef uint64_t needed_length(const struct table *table, size_t place, uint64_t before, uint64_t length);
 
-/* The least length from the one before on that is at least what is needed, or no time within the deadline. */
-static uint64_t least_length(needed_length *needed, const struct table *table, size_t place, uint64_t before)
+/* The least length from the one before on that is at least what is needed, or no time within the limit. */
+static uint64_t least_length(needed_length *needed, const struct table *table, size_t place, uint64_t before,
+                             uint64_t limit)
 {
-    for (uint64_t length = before; length <= table->records[place].deadline; length++) {
+    for (uint64_t length = before; length <= limit; length++) {
         if (length >= needed(table, place, before, length)) {
             return length;
         }
@@ -110,15 +112,15 @@ static uint64_t stage_two(const struct table *table, size_t place, uint64_t befo
                         largest_backup(table, own->priority, NOBODY);
 }
 
-/* The response time of a record, or no time where it is late. */
-static uint64_t response_time(const struct table *table, size_t place)
+/* The response time of a record, or no time within the limit. */
+static uint64_t response_time(const struct table *table, size_t place, uint64_t limit)
 {
-    uint64_t elsewhere = least_length(struck_elsewhere, table, place, 1);
-    uint64_t first = least_length(stage_one, table, place, 1);
+    uint64_t elsewhere = least_length(struck_elsewhere, table, place, 1, limit);
+    uint64_t first = least_length(stage_one, table, place, 1, limit);
     if (elsewhere == NO_TIME || first == NO_TIME) {
         return NO_TIME;
     }
-    uint64_t itself = least_length(stage_two, table, place, first);
+    uint64_t itself = least_length(stage_two, table, place, first, limit);
     if (itself == NO_TIME) {
         return NO_TIME;
     }
@@ -129,7 +131,7 @@ static uint64_t response_time(const struct table *table, size_t place)
 static bool passes(const struct table *table)
 {
     for (size_t place = 0; place < table->count; place++) {
-        if (response_time(table, place) == NO_TIME) {
+        if (response_time(table, place, table->records[place].deadline) == NO_TIME) {
             return false;
         }
     }
@@ -241,7 +243,30 @@ int64_t plain_response(const uint8_t *sheet, size_t len, size_t place)
 {
     struct table table;
     int64_t refusal = refused_at(sheet, len, place, &table);
-    return refusal != 0 ? refusal : (int64_t)response_time(&table, place);
+    if (refusal != 0) {
+        return refusal;
+    }
+    uint64_t time = response_time(&table, place, LONGEST_TIME);
+    return time > table.records[place].deadline ? NO_TIME : (int64_t)time;
+}
+
+/* The slack of the record at a place. */
+int64_t plain_slack(const uint8_t *sheet, size_t len, size_t place, int32_t *out, size_t out_len)
+{
+    struct table table;
+    int64_t refusal = refused_at(sheet, len, place, &table);
+    if (refusal == 0 && out_len == 0) {
+        refusal = -OUTPUT_TOO_SHORT;
+    }
+    if (refusal != 0) {
+        return refusal;
+    }
+    uint64_t time = response_time(&table, place, LONGEST_TIME);
+    if (time == NO_TIME) {
+        return 0;
+    }
+    out[0] = (int32_t)((int64_t)table.records[place].deadline - (int64_t)time);
+    return 1;
 }
 
 /* Whether the sheet passes. */

@@ -68,6 +68,7 @@ static void check_refused_calls(struct comparison *comparison)
 {
     struct generator *generator = &comparison->generator;
     check_response(comparison, random_below(generator, MOST_TASKS + 2));
+    check_slack(comparison, random_below(generator, MOST_TASKS + 2), random_below(generator, 2));
     check_verdict(comparison);
     check_least_interval(comparison);
     check_next(comparison, 0);
@@ -166,12 +167,15 @@ void codec_round(struct comparison *comparison, struct tally *tally, uint64_t ro
     }
 }
 
-/* Asks for the times at every place, at two past the last and at two far away, and for the verdict. */
+/* Asks for the times and slacks at every place, at two past the last and at two far away, and for the verdict. */
 static void check_times(struct comparison *comparison, struct tally *tally, const struct draft *draft)
 {
     for (size_t place = 0; place < draft->tasks + 2; place++) {
         check_response(comparison, place);
+        tally->figures += check_slack(comparison, place, 1) == 1;
     }
+    check_slack(comparison, random_below(&comparison->generator, draft->tasks), 0);
+    check_slack(comparison, random_below(&comparison->generator, draft->tasks), 2);
     check_response(comparison, SIZE_MAX / 2 + 1);
     check_response(comparison, SIZE_MAX);
     if (check_verdict(comparison) == 1) {

@@ -16,6 +16,7 @@ struct tally {
     uint64_t analysis_sheets;
     uint64_t passing;
     uint64_t late;
+    uint64_t figures;
     uint64_t least_intervals;
     uint64_t least_intervals_of_none;
     uint64_t lists;

@@ -17,6 +17,7 @@ enum { LONGEST_LINE = 1 << 16, MOST_WORDS = 16, ANSWER_ROOM = 512 };
 struct row {
     size_t words;
     char *word[MOST_WORDS];
+    const char *expected;
     char answer[ANSWER_ROOM];
 };
 
@@ -64,6 +65,70 @@ static void answer_replay(struct row *row)
     }
 }
 
+/* Adds a word to the answer, after a space if it is not the first. */
+static void add_word(struct row *row, const char *word)
+{
+    size_t length = strlen(row->answer);
+    snprintf(row->answer + length, ANSWER_ROOM - length, "%s%s", length == 0 ? "" : " ", word);
+}
+
+/* Adds the response and the slack of each record. */
+static void add_slacks(struct row *row, const struct bytes *sheet)
+{
+    int32_t slack;
+    int64_t figures = fq_slack(sheet->at, sheet->length, 0, &slack, 1);
+    for (size_t place = 0; figures >= 0; place++, figures = fq_slack(sheet->at, sheet->length, place, &slack, 1)) {
+        char figure[32] = "none";
+        int64_t start = fq_record(sheet->at, sheet->length, place);
+        int32_t deadline = sheet->at[start + 4] * 256 + sheet->at[start + 5];
+        int64_t time = fq_response(sheet->at, sheet->length, place);
+        if (figures == 1) {
+            snprintf(figure, sizeof figure, "%" PRId32 "/%" PRId32, deadline - slack, slack);
+        }
+        if (time != (figures == 1 && slack >= 0 ? deadline - slack : 0)) {
+            add_word(row, "the response is not the deadline less the slack:");
+        }
+        add_word(row, figure);
+    }
+}
+
+/* Whether a row expects a question mark at the word after another: a question that takes too long. */
+static bool is_left_out(const struct row *row, const char *word)
+{
+    const char *found = strstr(row->expected, word);
+    return found != NULL && found[strlen(word)] == '?';
+}
+
+/* SHEET: the refusal, the response and slack of each record, the number of choices, the least interval. */
+static void answer_slack(struct row *row)
+{
+    static struct bytes sheet;
+    static uint8_t list[FQ_LIST_BYTES];
+    read_bytes(row->word[0], &sheet);
+    add_number(row, fq_judge(sheet.at, sheet.length));
+    if (fq_judge(sheet.at, sheet.length) != 0) {
+        return;
+    }
+    add_slacks(row, &sheet);
+    add_word(row, "list");
+    if (is_left_out(row, "list ")) {
+        add_word(row, "?");
+    } else {
+        add_number(row, fq_list(sheet.at, sheet.length, list, sizeof list));
+    }
+    add_word(row, "least");
+    if (is_left_out(row, "least ")) {
+        add_word(row, "?");
+    } else {
+        int64_t least = fq_least_interval(sheet.at, sheet.length);
+        if (least == 0) {
+            add_word(row, "none");
+        } else {
+            add_number(row, least);
+        }
+    }
+}
+
 /* What answers the rows of a file, by the end of its name, and how many words are asked. */
 static const struct kind {
     const char *name;
@@ -71,6 +136,7 @@ static const struct kind {
     void (*answer)(struct row *row);
 } KINDS[] = {
     {"ask-01-replay.txt", 2, answer_replay},
+    {"ask-02-slack.txt", 1, answer_slack},
 };
 
 /* The kind of a file. */
@@ -98,6 +164,7 @@ static bool run_row(const struct kind *kind, char *line)
     }
     *expected = '\0';
     expected += strlen(" = ");
+    row.expected = expected;
     for (char *word = strtok(line, " "); word != NULL && row.words < MOST_WORDS; word = strtok(NULL, " ")) {
         row.word[row.words] = word;
         row.words++;

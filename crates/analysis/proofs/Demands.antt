@@ -14,12 +14,12 @@ use Rattle.sheet.specs.Rules.{tableRefusal}
 use Rattle.analysis.specs.Tasks.{Tasks, tasksOf, ownChoice}
 use Rattle.analysis.specs.Equations.{struckElsewhere, stageOne, stageTwo}
 use Rattle.analysis.specs.Search.{leastWithin}
-use Rattle.analysis.specs.Response.{timeElsewhere, lengthOne, timeItself, responseTime, passes}
+use Rattle.analysis.specs.Response.{timeElsewhere, lengthOne, timeItself, responseWithin, responseTime, isLate, late, passes}
 use Rattle.analysis.specs.Answers.{leastInterval}
 use Rattle.analysis.proofs.Climbing.{Fails, Says, first-says, first-found, first-none, Least, least-says, least-found, least-none}
 use Rattle.analysis.proofs.Choice.{Within, own-within}
 use Rattle.analysis.proofs.EachTick.{Never, never-one, never-two, some-never}
-use Rattle.analysis.proofs.Verdicts.{late, itself-none, itself-some, late-elsewhere, late-itself, on-time, some-found, none-below}
+use Rattle.analysis.proofs.Verdicts.{itself-none, itself-some, late-elsewhere, late-itself, on-time, some-found, none-below}
 
 -- L is at least what is asked of it, from the start and within the limit, and every smaller number from the start fails that
 pub record IsLeast (asked : ℕ → ℕ) (start limit L : ℕ) : Type 0 where
@@ -47,99 +47,103 @@ module _ (asked : ℕ → ℕ) (start limit : ℕ) (some : 1 ≤ start) where
       go (Least.none short) e = λ k low high. short k low (omega arith)
       go (Least.least low high fits short) e = absurd (omega arith)
 
-module _ (s : Tasks) (i : ℕ) where
-  -- the time struck elsewhere is the least that its equation allows within the deadline
-  pub elsewhere-least : (L : ℕ) → 1 ≤ L → (timeElsewhere s i ≡ L) ↔ IsLeast (struckElsewhere s i) 1 (s .at i .deadline) L
+module _ (limit : ℕ) (s : Tasks) (i : ℕ) where
+  -- the time struck elsewhere is the least that its equation allows within the limit
+  pub elsewhere-least : (L : ℕ) → 1 ≤ L → (timeElsewhere limit s i ≡ L) ↔ IsLeast (struckElsewhere s i) 1 limit L
   unfolding timeElsewhere
-  elsewhere-least L long = least-is (struckElsewhere s i) 1 (s .at i .deadline) (omega arith) L long
+  elsewhere-least L long = least-is (struckElsewhere s i) 1 limit (omega arith) L long
 
-  -- L1 is the least that stage one's equation allows within the deadline
-  pub one-least : (L : ℕ) → 1 ≤ L → (lengthOne s i ≡ L) ↔ IsLeast (stageOne s i) 1 (s .at i .deadline) L
+  -- L1 is the least that stage one's equation allows within the limit
+  pub one-least : (L : ℕ) → 1 ≤ L → (lengthOne limit s i ≡ L) ↔ IsLeast (stageOne s i) 1 limit L
   unfolding lengthOne
-  one-least L long = least-is (stageOne s i) 1 (s .at i .deadline) (omega arith) L long
+  one-least L long = least-is (stageOne s i) 1 limit (omega arith) L long
 
-  -- the time struck itself is the least from L1 on that stage two's equation allows within the deadline
-  pub itself-least : 1 ≤ lengthOne s i → (L : ℕ) → 1 ≤ L → (timeItself s i ≡ L) ↔ IsLeast (stageTwo s i (lengthOne s i)) (lengthOne s i) (s .at i .deadline) L
+  -- the time struck itself is the least from L1 on that stage two's equation allows within the limit
+  pub itself-least : 1 ≤ lengthOne limit s i → (L : ℕ) → 1 ≤ L → (timeItself limit s i ≡ L) ↔ IsLeast (stageTwo s i (lengthOne limit s i)) (lengthOne limit s i) limit L
   itself-least some L long =
-      let two = least-is (stageTwo s i (lengthOne s i)) (lengthOne s i) (s .at i .deadline) some L long in
-      let same = itself-some s i (λ e. omega arith) in
+      let two = least-is (stageTwo s i (lengthOne limit s i)) (lengthOne limit s i) limit some L long in
+      let same = itself-some limit s i (λ e. omega arith) in
       (λ e. two .0 (same ∙ e), λ w. sym same ∙ two .1 w)
 
   -- "The response time is the larger of the two times."
-  pub response-larger : 1 ≤ timeElsewhere s i → 1 ≤ timeItself s i → responseTime s i ≡ max (timeElsewhere s i) (timeItself s i)
-  response-larger first second = sym (on-time s i (λ e. omega arith) (λ e. omega arith))
+  pub response-larger : 1 ≤ timeElsewhere limit s i → 1 ≤ timeItself limit s i → responseWithin limit s i ≡ max (timeElsewhere limit s i) (timeItself limit s i)
+  response-larger first second = sym (on-time limit s i (λ e. omega arith) (λ e. omega arith))
 
-  -- "A task is late if either time, or L1, has no value within D.": the three ways to be late
+  -- the three ways to have no response time within the limit: "either time, or L1, has no value"
   pub data Missing : Type 0 where
-    no-time-elsewhere : NoValue (struckElsewhere s i) 1 (s .at i .deadline) → Missing
-    no-length-one : NoValue (stageOne s i) 1 (s .at i .deadline) → Missing
-    no-time-itself : 1 ≤ lengthOne s i → NoValue (stageTwo s i (lengthOne s i)) (lengthOne s i) (s .at i .deadline) → Missing
+    no-time-elsewhere : NoValue (struckElsewhere s i) 1 limit → Missing
+    no-length-one : NoValue (stageOne s i) 1 limit → Missing
+    no-time-itself : 1 ≤ lengthOne limit s i → NoValue (stageTwo s i (lengthOne limit s i)) (lengthOne limit s i) limit → Missing
 
-  elsewhere-none : (timeElsewhere s i ≡ 0) ↔ NoValue (struckElsewhere s i) 1 (s .at i .deadline)
+  elsewhere-none : (timeElsewhere limit s i ≡ 0) ↔ NoValue (struckElsewhere s i) 1 limit
   unfolding timeElsewhere
-  elsewhere-none = none-is (struckElsewhere s i) 1 (s .at i .deadline) (omega arith)
+  elsewhere-none = none-is (struckElsewhere s i) 1 limit (omega arith)
 
-  one-none : (lengthOne s i ≡ 0) ↔ NoValue (stageOne s i) 1 (s .at i .deadline)
+  one-none : (lengthOne limit s i ≡ 0) ↔ NoValue (stageOne s i) 1 limit
   unfolding lengthOne
-  one-none = none-is (stageOne s i) 1 (s .at i .deadline) (omega arith)
+  one-none = none-is (stageOne s i) 1 limit (omega arith)
 
-  two-none : 1 ≤ lengthOne s i → (timeItself s i ≡ 0) ↔ NoValue (stageTwo s i (lengthOne s i)) (lengthOne s i) (s .at i .deadline)
+  two-none : 1 ≤ lengthOne limit s i → (timeItself limit s i ≡ 0) ↔ NoValue (stageTwo s i (lengthOne limit s i)) (lengthOne limit s i) limit
   two-none some =
-      let two = none-is (stageTwo s i (lengthOne s i)) (lengthOne s i) (s .at i .deadline) some in
-      let same = itself-some s i (λ e. omega arith) in
+      let two = none-is (stageTwo s i (lengthOne limit s i)) (lengthOne limit s i) limit some in
+      let same = itself-some limit s i (λ e. omega arith) in
       (λ e. two .0 (same ∙ e), λ v. sym same ∙ two .1 v)
 
-  -- a task whose time struck itself is missing is late, whatever the other
-  itself-late : timeItself s i ≡ 0 → responseTime s i ≡ 0
-  itself-late e = go (ℕ-discrete (timeElsewhere s i) 0)
+  -- a task whose time struck itself is missing has no response time, whatever the other
+  itself-missing : timeItself limit s i ≡ 0 → responseWithin limit s i ≡ 0
+  itself-missing e = go (ℕ-discrete (timeElsewhere limit s i) 0)
     where
-      go : Dec (timeElsewhere s i ≡ 0) → responseTime s i ≡ 0
-      go (yes z) = sym (late-elsewhere s i z)
-      go (no z) = sym (late-itself s i z e)
+      go : Dec (timeElsewhere limit s i ≡ 0) → responseWithin limit s i ≡ 0
+      go (yes z) = sym (late-elsewhere limit s i z)
+      go (no z) = sym (late-itself limit s i z e)
 
-  -- a task is late exactly if it is so in one of them
-  pub late-exactly : (responseTime s i ≡ 0) ↔ Missing
-  late-exactly = (λ e. first (ℕ-discrete (timeElsewhere s i) 0) e, back)
+  pub missing-exactly : (responseWithin limit s i ≡ 0) ↔ Missing
+  missing-exactly = (λ e. first (ℕ-discrete (timeElsewhere limit s i) 0) e, back)
     where
-      third : (timeElsewhere s i ≡ 0 → ⊥) → (lengthOne s i ≡ 0 → ⊥) → Dec (timeItself s i ≡ 0) → responseTime s i ≡ 0 → Missing
+      third : (timeElsewhere limit s i ≡ 0 → ⊥) → (lengthOne limit s i ≡ 0 → ⊥) → Dec (timeItself limit s i ≡ 0) → responseWithin limit s i ≡ 0 → Missing
       third a b (yes z) e = no-time-itself (omega arith) (two-none (omega arith) .0 z)
-      third a b (no z) e = absurd (let larger = on-time s i a z in omega arith)
+      third a b (no z) e = absurd (let larger = on-time limit s i a z in omega arith)
 
-      second : (timeElsewhere s i ≡ 0 → ⊥) → Dec (lengthOne s i ≡ 0) → responseTime s i ≡ 0 → Missing
+      second : (timeElsewhere limit s i ≡ 0 → ⊥) → Dec (lengthOne limit s i ≡ 0) → responseWithin limit s i ≡ 0 → Missing
       second a (yes z) e = no-length-one (one-none .0 z)
-      second a (no z) e = third a z (ℕ-discrete (timeItself s i) 0) e
+      second a (no z) e = third a z (ℕ-discrete (timeItself limit s i) 0) e
 
-      first : Dec (timeElsewhere s i ≡ 0) → responseTime s i ≡ 0 → Missing
+      first : Dec (timeElsewhere limit s i ≡ 0) → responseWithin limit s i ≡ 0 → Missing
       first (yes z) e = no-time-elsewhere (elsewhere-none .0 z)
-      first (no z) e = second z (ℕ-discrete (lengthOne s i) 0) e
+      first (no z) e = second z (ℕ-discrete (lengthOne limit s i) 0) e
 
-      back : Missing → responseTime s i ≡ 0
-      back (no-time-elsewhere v) = sym (late-elsewhere s i (elsewhere-none .1 v))
-      back (no-length-one v) = itself-late (sym (itself-none s i (one-none .1 v)))
-      back (no-time-itself some v) = itself-late (two-none some .1 v)
+      back : Missing → responseWithin limit s i ≡ 0
+      back (no-time-elsewhere v) = sym (late-elsewhere limit s i (elsewhere-none .1 v))
+      back (no-length-one v) = itself-missing (sym (itself-none limit s i (one-none .1 v)))
+      back (no-time-itself some v) = itself-missing (two-none some .1 v)
 
 -- "A sheet passes if no task is late."
-pub passes-exactly : (s : Tasks) → (passes s ≡ true) ↔ ((i : ℕ) → i < s .count → responseTime s i ≡ 0 → ⊥)
+pub passes-exactly : (s : Tasks) → (passes s ≡ true) ↔ ((i : ℕ) → i < s .count → late s i ≡ false)
 unfolding passes
 passes-exactly s = (
-  λ e i below z. true≢false (sym (some-found (late s) i (s .count) below (eq-eqb (responseTime s i) 0 z)) ∙ not-true (someBelow (late s) (s .count)) e),
-  λ each. ap not (none-below (late s) (s .count) (λ i below. ne-eqb (responseTime s i) 0 (each i below))),
+  λ e i below. go (late s i) refl i below (not-true (someBelow (late s) (s .count)) e),
+  λ each. ap not (none-below (late s) (s .count) each),
 )
+  where
+    go : (b : Bool) {i : ℕ} → late s i ≡ b → (j : ℕ) → i < s .count → someBelow (late s) (s .count) ≡ false → b ≡ false
+    go true {i} e j below none = absurd (true≢false (sym (some-found (late s) i (s .count) below e) ∙ none))
+    go false e j below none = refl
 
 -- at E = 1, where a fault comes each tick, no good table passes, whatever the choice: the lower of two tasks has no L1, a task alone no time
 pub fails-at-1 : (t : Table) → tableRefusal t ≡ 0 → (choice : List ℕ) → Within t choice → passes (tasksOf t 1 choice) ≡ false
+unfolding responseTime isLate
 fails-at-1 t good choice within = go (passes (tasksOf t 1 choice)) refl (some-never t good choice within)
   where
     late-never : {i : ℕ} → Never (tasksOf t 1 choice) i → responseTime (tasksOf t 1 choice) i ≡ 0
-    late-never {i} (never-one never) = late-exactly (tasksOf t 1 choice) i .1 (no-length-one (λ k low high. never k low))
-    late-never {i} (never-two never) = second (ℕ-discrete (lengthOne (tasksOf t 1 choice) i) 0)
+    late-never {i} (never-one never) = missing-exactly 65535 (tasksOf t 1 choice) i .1 (no-length-one (λ k low high. never k low))
+    late-never {i} (never-two never) = second (ℕ-discrete (lengthOne 65535 (tasksOf t 1 choice) i) 0)
       where
-        second : Dec (lengthOne (tasksOf t 1 choice) i ≡ 0) → responseTime (tasksOf t 1 choice) i ≡ 0
-        second (yes z) = itself-late (tasksOf t 1 choice) i (sym (itself-none (tasksOf t 1 choice) i z))
-        second (no z) = late-exactly (tasksOf t 1 choice) i .1 (no-time-itself (omega arith) (λ k low high. never (lengthOne (tasksOf t 1 choice) i) k low))
+        second : Dec (lengthOne 65535 (tasksOf t 1 choice) i ≡ 0) → responseTime (tasksOf t 1 choice) i ≡ 0
+        second (yes z) = itself-missing 65535 (tasksOf t 1 choice) i (sym (itself-none 65535 (tasksOf t 1 choice) i z))
+        second (no z) = missing-exactly 65535 (tasksOf t 1 choice) i .1 (no-time-itself (omega arith) (λ k low high. never (lengthOne 65535 (tasksOf t 1 choice) i) k low))
 
     go : (b : Bool) → passes (tasksOf t 1 choice) ≡ b → (i : ℕ) × (i < t .count) × Never (tasksOf t 1 choice) i → b ≡ false
-    go true e w = absurd (passes-exactly (tasksOf t 1 choice) .0 e (w .0) (w .1) (late-never (w .2)))
+    go true e w = absurd (true≢false (sym (simp (eq-eqb _ 0 (late-never (w .2)))) ∙ passes-exactly (tasksOf t 1 choice) .0 e (w .0) (w .1)))
     go false e w = refl
 
 -- whether a table passes at an interval, with its own fault priorities

@@ -26,15 +26,15 @@ module _ (t : Table) (interval : ℕ) (choice : List ℕ) (i : ℕ) where
   abbrev tasks : Tasks
   tasks = tasksOf t interval choice
 
-  pub elsewhere-found : {base backup limit : ℕ} → base ≡ recordAt (t .records) i .cost → backup ≡ largestBackup (tasksOf t 0 choice) (others i) (recordAt (t .records) i .priority) → limit ≡ recordAt (t .records) i .deadline
-      → leastWithin (demandOf (tasksOf t interval []) (record { base = base; level = recordAt (t .records) i .priority; omitted = i; backup = backup; paid = 0 })) 1 limit ≡ timeElsewhere tasks i
+  pub elsewhere-found : {base backup limit within : ℕ} → base ≡ recordAt (t .records) i .cost → backup ≡ largestBackup (tasksOf t 0 choice) (others i) (recordAt (t .records) i .priority) → limit ≡ within
+      → leastWithin (demandOf (tasksOf t interval []) (record { base = base; level = recordAt (t .records) i .priority; omitted = i; backup = backup; paid = 0 })) 1 limit ≡ timeElsewhere within tasks i
   unfolding timeElsewhere backupElsewhere largestBackup
   elsewhere-found b m l =
       ap₂ (λ (d : Demand) (n : ℕ). leastWithin (demandOf (tasksOf t interval []) d) 1 n) (λ j. record { base = b j; level = recordAt (t .records) i .priority; omitted = i; backup = m j; paid = 0 }) l
       ∙ least-agree _ (struckElsewhere tasks i) 1 _ (λ L low. faultless t interval choice (demandElsewhere tasks i) L ∙ elsewhere-tied tasks i L)
 
-  pub one-found : {base backup paid limit : ℕ} → 1 ≤ interval → base ≡ recordAt (t .records) i .backup → backup ≡ largestBackup (tasksOf t 0 choice) everyone (getD choice i 0) → paid ≡ backup → limit ≡ recordAt (t .records) i .deadline
-      → leastWithin (demandOf (tasksOf t interval []) (record { base = base; level = getD choice i 0; omitted = i; backup = backup; paid = paid })) 1 limit ≡ lengthOne tasks i
+  pub one-found : {base backup paid limit within : ℕ} → 1 ≤ interval → base ≡ recordAt (t .records) i .backup → backup ≡ largestBackup (tasksOf t 0 choice) everyone (getD choice i 0) → paid ≡ backup → limit ≡ within
+      → leastWithin (demandOf (tasksOf t interval []) (record { base = base; level = getD choice i 0; omitted = i; backup = backup; paid = paid })) 1 limit ≡ lengthOne within tasks i
   unfolding lengthOne backupFromFault largestBackup
   one-found some b m p l =
       ap₂ (λ (d : Demand) (n : ℕ). leastWithin (demandOf (tasksOf t interval []) d) 1 n) (λ j. record { base = b j; level = getD choice i 0; omitted = i; backup = m j; paid = (p ∙ m) j }) l
@@ -45,10 +45,10 @@ module _ (t : Table) (interval : ℕ) (choice : List ℕ) (i : ℕ) where
   unfolding stageTwo
   short-base first k low high = omega arith
 
-  pub two-found : (first : ℕ) {base backup paid limit : ℕ} → base ≡ first + recordAt (t .records) i .cost → backup ≡ largestBackup (tasksOf t 0 choice) everyone (recordAt (t .records) i .priority)
-      → paid ≡ loadOf (tasksOf t interval []) (record { base = base; level = recordAt (t .records) i .priority; omitted = i; backup = backup; paid = 0 }) first → limit ≡ recordAt (t .records) i .deadline
+  pub two-found : (first : ℕ) {base backup paid limit within : ℕ} → base ≡ first + recordAt (t .records) i .cost → backup ≡ largestBackup (tasksOf t 0 choice) everyone (recordAt (t .records) i .priority)
+      → paid ≡ loadOf (tasksOf t interval []) (record { base = base; level = recordAt (t .records) i .priority; omitted = i; backup = backup; paid = 0 }) first → limit ≡ within
       → leastWithin (demandOf (tasksOf t interval []) (record { base = base; level = recordAt (t .records) i .priority; omitted = i; backup = backup; paid = paid })) base limit
-      ≡ leastWithin (stageTwo tasks i first) first (recordAt (t .records) i .deadline)
+      ≡ leastWithin (stageTwo tasks i first) first within
   unfolding backupAfter largestBackup loadOf
   two-found first b m p l =
       let q = p ∙ ap₂ (λ (x y : ℕ). loadOf (tasksOf t interval []) (record { base = x; level = recordAt (t .records) i .priority; omitted = i; backup = y; paid = 0 }) first) b m in

@@ -5,6 +5,10 @@ pub mod Climbing
 pub mod Tied
 pub mod Found
 pub mod Verdicts
+pub mod Limits
+pub mod Difference
+pub mod Slacks
+pub mod Former
 pub mod Choice
 pub mod EachTick
 pub mod Demands

@@ -2,11 +2,12 @@
 -- call is no"; when 12 and 13 are given; and what stands there where nothing is refused. Assumes nothing.
 use Prim.Native.Nat.{ℕ, _≤_, _<_}
 use mathlib.Core.Path.{_≡_, refl, ap, _∙_}
-use mathlib.Core.Bool.{false}
+use mathlib.Core.Bool.{true, false}
 use mathlib.Core.List.{List}
 use mathlib.Core.Logic.{_↔_}
 use native.Mathlib.Omega.{arith}
 use borrow.Author.Tests.{eq-eqb, ne-eqb}
+use lib.IntN.{pos}
 use lib.ListN.{length, getD, replicate, getD-replicate}
 use Rattle.sheet.specs.declared.Table.{Table}
 use Rattle.sheet.specs.Layout.{recordAt}
@@ -19,37 +20,46 @@ use Rattle.sheet.proofs.Order.{table-in-order}
 use Rattle.sheet.proofs.Refused.{given-unless, passed-if, tests}
 use Rattle.analysis.specs.declared.Entry.{Entry}
 use Rattle.analysis.specs.declared.Outcome.the-variants.{OnTime, Late}
+use Rattle.analysis.specs.declared.Slack.the-variants.{Figure}
 use Rattle.analysis.specs.declared.Interval.the-variants.{Refused, Least, Nothing}
 use Rattle.analysis.specs.Tasks.{tasksOf}
-use Rattle.analysis.specs.Response.{responseTime, passes}
+use Rattle.analysis.specs.Response.{responseTime, late, passes}
 use Rattle.analysis.specs.Allowed.{levelsOf, allAllowed}
-use Rattle.analysis.specs.Answers.{outcomeOf, entryOf, noEntry, ownTasks, timesAnswer, timedRefusal, timedAnswer}
+use Rattle.analysis.specs.Answers.{outcomeOf, slackOf, entryFrom, entryOf, noEntry, ownTasks, timesAnswer, timedRefusal, timedAnswer}
 use Rattle.analysis.specs.Answers.{verdictOf, verdictAnswer, choiceRefusal, choiceAnswer, leastInterval, leastOf, intervalAnswer}
 use Rattle.analysis.proofs.Choice.{Allowed, allowed-exactly, filled-past}
 
--- "deadline 0 beside time 0"
+-- "deadline 0 beside time 0"; its slack is 0
 pub record Blank (e : Entry) : Type 0 where
   pub deadline : e .deadline ≡ 0
   pub time : e .outcome ≡ OnTime 0
+  pub slack : e .slack ≡ Figure (pos 0)
 
 -- the definition's entry is one
 blank : (e : Entry) → e ≡ noEntry → Blank e
-blank e same = record { deadline = ap (λ (x : Entry). x .deadline) same; time = ap (λ (x : Entry). x .outcome) same }
+blank e same =
+    record {
+      deadline = ap (λ (x : Entry). x .deadline) same;
+      time = ap (λ (x : Entry). x .outcome) same;
+      slack = ap (λ (x : Entry). x .slack) same;
+    }
 
--- "its deadline beside either a time or the word late"
+-- "its deadline beside either a time or the word late", and the slack: what the entry of a record says of its response time
 pub record Answers (t : Table) (place : ℕ) (e : Entry) : Type 0 where
   pub deadline : e .deadline ≡ recordAt (t .records) place .deadline
-  pub late : responseTime (ownTasks t) place ≡ 0 → e .outcome ≡ Late
-  pub on-time : (time : ℕ) → 1 ≤ time → responseTime (ownTasks t) place ≡ time → e .outcome ≡ OnTime time
+  pub is-late : late (ownTasks t) place ≡ true → e .outcome ≡ Late
+  pub is-on-time : late (ownTasks t) place ≡ false → e .outcome ≡ OnTime (responseTime (ownTasks t) place)
+  pub slack : e .slack ≡ slackOf (recordAt (t .records) place .deadline) (responseTime (ownTasks t) place)
 
 -- the definition's entry of a record is one
 answers : (t : Table) (place : ℕ) (e : Entry) → e ≡ entryOf (ownTasks t) place → Answers t place e
-unfolding entryOf outcomeOf
+unfolding entryOf entryFrom outcomeOf
 answers t place e same =
     record {
       deadline = ap (λ (x : Entry). x .deadline) same;
-      late = λ none. ap (λ (x : Entry). x .outcome) same ∙ simp (eq-eqb _ 0 none);
-      on-time = λ time some is. ap (λ (x : Entry). x .outcome) same ∙ ap outcomeOf is ∙ simp (ne-eqb time 0 (λ z. omega arith));
+      is-late = λ is. ap (λ (x : Entry). x .outcome) same ∙ simp is;
+      is-on-time = λ is. ap (λ (x : Entry). x .outcome) same ∙ simp is;
+      slack = ap (λ (x : Entry). x .slack) same;
     }
 
 -- `response_times`

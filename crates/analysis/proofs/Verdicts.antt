@@ -7,38 +7,33 @@ use native.Mathlib.Nat.{eq-or-lt-of-le, le-of-suc-le-suc, not-suc-le-zero}
 use native.Mathlib.Omega.{arith}
 use native.Mathlib.Numerals.{add-one}
 use borrow.Author.Tests.{eq-eqb, ne-eqb}
-use lib.Dec.{eqb}
 use Rattle.sheet.specs.Places.{someBelow}
 use Rattle.analysis.specs.Tasks.{Tasks}
 use Rattle.analysis.specs.Equations.{stageTwo}
 use Rattle.analysis.specs.Search.{leastWithin}
-use Rattle.analysis.specs.Response.{timeElsewhere, lengthOne, timeItself, responseTime}
+use Rattle.analysis.specs.Response.{timeElsewhere, lengthOne, timeItself, responseWithin}
 
-module _ (s : Tasks) (i : ℕ) where
-  pub itself-none : lengthOne s i ≡ 0 → 0 ≡ timeItself s i
+module _ (limit : ℕ) (s : Tasks) (i : ℕ) where
+  pub itself-none : lengthOne limit s i ≡ 0 → 0 ≡ timeItself limit s i
   unfolding timeItself
-  itself-none e = simp (eq-eqb (lengthOne s i) 0 e)
+  itself-none e = simp (eq-eqb (lengthOne limit s i) 0 e)
 
-  pub itself-some : (lengthOne s i ≡ 0 → ⊥) → leastWithin (stageTwo s i (lengthOne s i)) (lengthOne s i) (s .at i .deadline) ≡ timeItself s i
+  pub itself-some : (lengthOne limit s i ≡ 0 → ⊥) → leastWithin (stageTwo s i (lengthOne limit s i)) (lengthOne limit s i) limit ≡ timeItself limit s i
   unfolding timeItself
-  itself-some e = simp (ne-eqb (lengthOne s i) 0 e)
+  itself-some e = simp (ne-eqb (lengthOne limit s i) 0 e)
 
-  pub late-elsewhere : timeElsewhere s i ≡ 0 → 0 ≡ responseTime s i
-  unfolding responseTime
-  late-elsewhere e = simp (eq-eqb (timeElsewhere s i) 0 e)
+  pub late-elsewhere : timeElsewhere limit s i ≡ 0 → 0 ≡ responseWithin limit s i
+  unfolding responseWithin
+  late-elsewhere e = simp (eq-eqb (timeElsewhere limit s i) 0 e)
 
-  module _ (first : timeElsewhere s i ≡ 0 → ⊥) where
-    pub late-itself : timeItself s i ≡ 0 → 0 ≡ responseTime s i
-    unfolding responseTime
-    late-itself e = simp (ne-eqb (timeElsewhere s i) 0 first, eq-eqb (timeItself s i) 0 e)
+  module _ (first : timeElsewhere limit s i ≡ 0 → ⊥) where
+    pub late-itself : timeItself limit s i ≡ 0 → 0 ≡ responseWithin limit s i
+    unfolding responseWithin
+    late-itself e = simp (ne-eqb (timeElsewhere limit s i) 0 first, eq-eqb (timeItself limit s i) 0 e)
 
-    pub on-time : (timeItself s i ≡ 0 → ⊥) → max (timeElsewhere s i) (timeItself s i) ≡ responseTime s i
-    unfolding responseTime
-    on-time second = simp (ne-eqb (timeElsewhere s i) 0 first, ne-eqb (timeItself s i) 0 second)
-
--- the test whether a record is late
-abbrev pub late : Tasks → ℕ → Bool
-late s i = eqb (responseTime s i) 0
+    pub on-time : (timeItself limit s i ≡ 0 → ⊥) → max (timeElsewhere limit s i) (timeItself limit s i) ≡ responseWithin limit s i
+    unfolding responseWithin
+    on-time second = simp (ne-eqb (timeElsewhere limit s i) 0 first, ne-eqb (timeItself limit s i) 0 second)
 
 -- a test that holds at no place so far, and not at the next
 pub some-more : (test : ℕ → Bool) (n : ℕ) → someBelow test n ≡ false → test n ≡ false → someBelow test (n + 1) ≡ false

@@ -3,12 +3,15 @@ use Prim.Native.Nat.{ℕ}
 use mathlib.Core.Bool.{Bool, false, cond}
 use mathlib.Core.List.{List}
 use lib.Dec.{eqb, ltb}
+use lib.IntN.{pos, _-ℤ_}
 use lib.ListN.{replicate}
 use Rattle.sheet.specs.declared.Table.{Table}
 use Rattle.sheet.specs.Places.{orElse, filledBelow}
 use Rattle.sheet.specs.Rules.{tableRefusal}
 use Rattle.analysis.specs.declared.Outcome.{Outcome}
 use Rattle.analysis.specs.declared.Outcome.the-variants.{OnTime, Late}
+use Rattle.analysis.specs.declared.Slack.{Slack}
+use Rattle.analysis.specs.declared.Slack.the-variants.{Figure, NoFigure}
 use Rattle.analysis.specs.declared.Entry.{Entry}
 use Rattle.analysis.specs.declared.Times.{Times}
 use Rattle.analysis.specs.declared.Timed.{Timed}
@@ -17,20 +20,28 @@ use Rattle.analysis.specs.declared.Interval.{Interval}
 use Rattle.analysis.specs.declared.Interval.the-variants.{Refused, Least, Nothing}
 use Rattle.analysis.specs.Tasks.{Tasks, tasksOf, ownChoice}
 use Rattle.analysis.specs.Search.{firstFrom}
-use Rattle.analysis.specs.Response.{responseTime, passes}
+use Rattle.analysis.specs.Response.{responseTime, isLate, passes}
 use Rattle.analysis.specs.Allowed.{levelsOf, allAllowed}
 
--- "either a time or the word late": late stands for the response that has no value
-unfoldable pub outcomeOf : ℕ → Outcome
-outcomeOf time = cond (eqb time 0) Late (OnTime time)
+-- "either a time or the word late"
+unfoldable pub outcomeOf : ℕ → ℕ → Outcome
+outcomeOf deadline time = cond (isLate deadline time) Late (OnTime time)
 
--- "each record's entry holds its deadline beside either a time or the word late"
+-- document 02, request 2: "the slack, deadline minus response, negative when late and zero at an exact fit. Where no value exists within 65,535 there is no figure."
+unfoldable pub slackOf : ℕ → ℕ → Slack
+slackOf deadline time = cond (eqb time 0) NoFigure (Figure (pos deadline -ℤ pos time))
+
+-- "each record's entry holds its deadline beside either a time or the word late", and "each entry carries the slack"
+unfoldable pub entryFrom : ℕ → ℕ → Entry
+entryFrom deadline time = record { deadline = deadline; outcome = outcomeOf deadline time; slack = slackOf deadline time }
+
+-- the entry of record i
 unfoldable pub entryOf : Tasks → ℕ → Entry
-entryOf s i = record { deadline = s .at i .deadline; outcome = outcomeOf (responseTime s i) }
+entryOf s i = entryFrom (s .at i .deadline) (responseTime s i)
 
--- "In a refusal, and in entries past the count, an entry is deadline 0 beside time 0"
+-- "In a refusal, and in entries past the count, an entry is deadline 0 beside time 0"; its slack is 0
 abbrev pub noEntry : Entry
-noEntry = record { deadline = 0; outcome = OnTime 0 }
+noEntry = record { deadline = 0; outcome = OnTime 0; slack = Figure (pos 0) }
 
 -- a table's tasks under its own interval and its own fault priorities
 abbrev pub ownTasks : Table → Tasks

@@ -1,28 +1,40 @@
--- The response time of record i, 0 where the task is late, and whether a table passes.
+-- The response time of record i within a limit, 0 where the equations have no value there, and what it is for a task to be late and a table to pass.
 use Prim.Native.Nat.{ℕ, max}
 use mathlib.Core.Bool.{Bool, cond, not, _||_}
-use lib.Dec.{eqb}
+use lib.Dec.{eqb, ltb}
 use Rattle.sheet.specs.Places.{someBelow}
 use Rattle.analysis.specs.Tasks.{Tasks}
 use Rattle.analysis.specs.Equations.{struckElsewhere, stageOne, stageTwo}
 use Rattle.analysis.specs.Search.{leastWithin}
 
--- "Struck elsewhere": "the least L ≥ 1 such that L is at least" its equation, within D
-unfoldable pub timeElsewhere : Tasks → ℕ → ℕ
-timeElsewhere s i = leastWithin (struckElsewhere s i) 1 (s .at i .deadline)
+-- "Struck elsewhere": "the least L ≥ 1 such that L is at least" its equation
+unfoldable pub timeElsewhere : ℕ → Tasks → ℕ → ℕ
+timeElsewhere limit s i = leastWithin (struckElsewhere s i) 1 limit
 
--- "L1 is the least number ≥ 1 that is at least" stage one's equation, within D
-unfoldable pub lengthOne : Tasks → ℕ → ℕ
-lengthOne s i = leastWithin (stageOne s i) 1 (s .at i .deadline)
+-- "L1 is the least number ≥ 1 that is at least" stage one's equation
+unfoldable pub lengthOne : ℕ → Tasks → ℕ → ℕ
+lengthOne limit s i = leastWithin (stageOne s i) 1 limit
 
--- "Struck itself": "the least L ≥ L1 such that L is at least" stage two's equation, within D; none where L1 has no value
-unfoldable pub timeItself : Tasks → ℕ → ℕ
-timeItself s i = cond (eqb (lengthOne s i) 0) 0 (leastWithin (stageTwo s i (lengthOne s i)) (lengthOne s i) (s .at i .deadline))
+-- "Struck itself": "the least L ≥ L1 such that L is at least" stage two's equation; none where L1 has no value
+unfoldable pub timeItself : ℕ → Tasks → ℕ → ℕ
+timeItself limit s i = cond (eqb (lengthOne limit s i) 0) 0 (leastWithin (stageTwo s i (lengthOne limit s i)) (lengthOne limit s i) limit)
 
--- "The response time is the larger of the two times. A task is late if either time, or L1, has no value within D."
+-- "The response time is the larger of the two times."
+unfoldable pub responseWithin : ℕ → Tasks → ℕ → ℕ
+responseWithin limit s i = cond (eqb (timeElsewhere limit s i) 0 || eqb (timeItself limit s i) 0) 0 (max (timeElsewhere limit s i) (timeItself limit s i))
+
+-- document 02, request 2: "The response time is searched up to 65,535 instead of D"
 unfoldable pub responseTime : Tasks → ℕ → ℕ
-responseTime s i = cond (eqb (timeElsewhere s i) 0 || eqb (timeItself s i) 0) 0 (max (timeElsewhere s i) (timeItself s i))
+responseTime s i = responseWithin 65535 s i
+
+-- late: there is no response time within D
+unfoldable pub isLate : ℕ → ℕ → Bool
+isLate deadline time = eqb time 0 || ltb deadline time
+
+-- whether record i is late
+abbrev pub late : Tasks → ℕ → Bool
+late s i = isLate (s .at i .deadline) (responseTime s i)
 
 -- "A sheet passes if no task is late."
 unfoldable pub passes : Tasks → Bool
-passes s = not (someBelow (λ i. eqb (responseTime s i) 0) (s .count))
+passes s = not (someBelow (late s) (s .count))

@@ -18,10 +18,17 @@ pub enum Outcome {
     Late,
 }
 
-// One record's answer: its deadline beside its response.
+// By how many ticks a response is within its deadline, negative where it is past it, or that there is no figure.
+pub enum Slack {
+    Figure(i32),
+    NoFigure,
+}
+
+// One record's answer: its deadline beside its response, and the slack.
 pub struct Entry {
     pub deadline: u16,
     pub outcome: Outcome,
+    pub slack: Slack,
 }
 
 // What `response_times` answers: the refusal, or 0 beside an entry for each record.

@@ -1,28 +1,31 @@
 // Response times: struck elsewhere, struck itself in two stages, the larger of both; and what is asked of all records together.
-// Fault priorities come from a choice beside the table.
+// Fault priorities come from a choice beside the table. Each time is searched for up to a limit: 65,535 for a figure, the deadline for the verdict.
 ghost use mathlib.Core.Path.{_≡_};
 ghost use Prim.Native.Nat.{_≤_, _<_};
 ghost use lib.ListN.{replicate};
 ghost use Rattle.sheet.specs.Rules.{tableRefusal};
 ghost use Rattle.sheet.specs.Places.{filledBelow};
 ghost use Rattle.analysis.specs.Tasks.{tasksOf, ownChoice};
-ghost use Rattle.analysis.specs.Response.{timeElsewhere, lengthOne, timeItself, responseTime, passes};
-ghost use Rattle.sheet.specs.Layout.{recordAt};
+ghost use Rattle.analysis.specs.Response.{timeElsewhere, lengthOne, timeItself, responseWithin, late, passes};
 ghost use Rattle.analysis.specs.Equations.{stageTwo};
 ghost use Rattle.analysis.specs.Search.{leastWithin};
-ghost use Rattle.analysis.specs.Answers.{outcomeOf, entryOf, noEntry, ownTasks, leastInterval};
+ghost use Rattle.analysis.specs.Answers.{outcomeOf, slackOf, entryOf, noEntry, ownTasks, leastInterval};
 use crate::Demand;
 use crate::Entry;
 use crate::Outcome;
+use crate::Slack;
 use crate::search;
 use crate::workload;
 use sheet::Record;
 use sheet::Table;
 
+// The longest response time that is searched for.
+const LONGEST: u16 = 65535;
+
 // The time of the record at a place when faults strike other tasks only, or 0.
-fn elsewhere(table: Table, interval: u16, choice: [u8; 8], place: usize) -> u64
-    requires { ⌜ (tableRefusal table ≡ 0) × (1 ≤ interval) × (place < table .count) ⌝ }
-    ensures { λ r. ⌜ (r ≡ timeElsewhere (tasksOf table interval choice) place) × (r < 65536) ⌝ }
+fn elsewhere(table: Table, interval: u16, choice: [u8; 8], place: usize, limit: u64) -> u64
+    requires { ⌜ (tableRefusal table ≡ 0) × (1 ≤ interval) × (place < table .count) × (limit < 65536) ⌝ }
+    ensures { λ r. ⌜ (r ≡ timeElsewhere limit (tasksOf table interval choice) place) × (r < 65536) ⌝ }
 {
     let task = table.records[place];
     let sought = Demand {
@@ -32,13 +35,13 @@ fn elsewhere(table: Table, interval: u16, choice: [u8; 8], place: usize) -> u64
         backup: workload::largest(table, choice, place, task.priority),
         paid: 0,
     };
-    search::climb(table, interval, sought, 1, workload::wide(task.deadline))
+    search::climb(table, interval, sought, 1, limit)
 }
 
 // L1, the length of stage one, or 0.
-fn length_one(table: Table, interval: u16, choice: [u8; 8], place: usize) -> u64
-    requires { ⌜ (tableRefusal table ≡ 0) × (1 ≤ interval) × (place < table .count) ⌝ }
-    ensures { λ r. ⌜ (r ≡ lengthOne (tasksOf table interval choice) place) × (r < 65536) ⌝ }
+fn length_one(table: Table, interval: u16, choice: [u8; 8], place: usize, limit: u64) -> u64
+    requires { ⌜ (tableRefusal table ≡ 0) × (1 ≤ interval) × (place < table .count) × (limit < 65536) ⌝ }
+    ensures { λ r. ⌜ (r ≡ lengthOne limit (tasksOf table interval choice) place) × (r < 65536) ⌝ }
 {
     let task = table.records[place];
     let fault = choice[place];
@@ -50,13 +53,20 @@ fn length_one(table: Table, interval: u16, choice: [u8; 8], place: usize) -> u64
         backup,
         paid: workload::wide(backup),
     };
-    search::climb(table, interval, sought, 1, workload::wide(task.deadline))
+    search::climb(table, interval, sought, 1, limit)
 }
 
 // The time of stage two, from the length of stage one on, or 0. No length below the base is enough, so the climb starts there.
-fn stage_two(table: Table, interval: u16, choice: [u8; 8], place: usize, first: u64) -> u64
-    requires { ⌜ (tableRefusal table ≡ 0) × (1 ≤ interval) × (place < table .count) × (1 ≤ first) × (first < 65536) ⌝ }
-    ensures { λ r. ⌜ (r ≡ leastWithin (stageTwo (tasksOf table interval choice) place first) first (recordAt (table .records) place .deadline)) × (r < 65536) ⌝ }
+fn stage_two(
+    table: Table,
+    interval: u16,
+    choice: [u8; 8],
+    place: usize,
+    first: u64,
+    limit: u64,
+) -> u64
+    requires { ⌜ (tableRefusal table ≡ 0) × (1 ≤ interval) × (place < table .count) × (1 ≤ first) × (first < 65536) × (limit < 65536) ⌝ }
+    ensures { λ r. ⌜ (r ≡ leastWithin (stageTwo (tasksOf table interval choice) place first) first limit) × (r < 65536) ⌝ }
 {
     let task = table.records[place];
     let level = task.priority;
@@ -76,31 +86,31 @@ fn stage_two(table: Table, interval: u16, choice: [u8; 8], place: usize, first: 
         backup,
         paid: workload::load(table, interval, unpaid, first),
     };
-    search::climb(table, interval, sought, base, workload::wide(task.deadline))
+    search::climb(table, interval, sought, base, limit)
 }
 
 // The time of the record at a place when the first fault strikes it, or 0.
-fn itself(table: Table, interval: u16, choice: [u8; 8], place: usize) -> u64
-    requires { ⌜ (tableRefusal table ≡ 0) × (1 ≤ interval) × (place < table .count) ⌝ }
-    ensures { λ r. ⌜ (r ≡ timeItself (tasksOf table interval choice) place) × (r < 65536) ⌝ }
+fn itself(table: Table, interval: u16, choice: [u8; 8], place: usize, limit: u64) -> u64
+    requires { ⌜ (tableRefusal table ≡ 0) × (1 ≤ interval) × (place < table .count) × (limit < 65536) ⌝ }
+    ensures { λ r. ⌜ (r ≡ timeItself limit (tasksOf table interval choice) place) × (r < 65536) ⌝ }
 {
-    let first = length_one(table, interval, choice, place);
+    let first = length_one(table, interval, choice, place, limit);
     if first == 0 {
         return 0;
     }
-    stage_two(table, interval, choice, place, first)
+    stage_two(table, interval, choice, place, first, limit)
 }
 
 // The response time of the record at a place, or 0 where it is late.
-fn response(table: Table, interval: u16, choice: [u8; 8], place: usize) -> u16
-    requires { ⌜ (tableRefusal table ≡ 0) × (1 ≤ interval) × (place < table .count) ⌝ }
-    ensures { λ r. ⌜ r ≡ responseTime (tasksOf table interval choice) place ⌝ }
+fn response(table: Table, interval: u16, choice: [u8; 8], place: usize, limit: u64) -> u16
+    requires { ⌜ (tableRefusal table ≡ 0) × (1 ≤ interval) × (place < table .count) × (limit < 65536) ⌝ }
+    ensures { λ r. ⌜ r ≡ responseWithin limit (tasksOf table interval choice) place ⌝ }
 {
-    let first = elsewhere(table, interval, choice, place);
+    let first = elsewhere(table, interval, choice, place, limit);
     if first == 0 {
         return 0;
     }
-    let second = itself(table, interval, choice, place);
+    let second = itself(table, interval, choice, place, limit);
     if second == 0 {
         return 0;
     }
@@ -111,14 +121,27 @@ fn response(table: Table, interval: u16, choice: [u8; 8], place: usize) -> u16
     }
 }
 
-// A response time as an outcome.
-fn outcome(time: u16) -> Outcome
-    ensures { λ r. ⌜ r ≡ outcomeOf time ⌝ }
+// A response time, 0 for none, as an outcome.
+fn outcome(deadline: u16, time: u16) -> Outcome
+    ensures { λ r. ⌜ r ≡ outcomeOf deadline time ⌝ }
 {
     if time == 0 {
         return Outcome::Late;
     }
+    if deadline < time {
+        return Outcome::Late;
+    }
     Outcome::OnTime(time)
+}
+
+// The deadline less a response time, 0 for none.
+fn margin(deadline: u16, time: u16) -> Slack
+    ensures { λ r. ⌜ r ≡ slackOf deadline time ⌝ }
+{
+    if time == 0 {
+        return Slack::NoFigure;
+    }
+    Slack::Figure(deadline as i32 - time as i32)
 }
 
 // The entry of a refused call and of a place past the count.
@@ -128,6 +151,7 @@ pub fn no_entry() -> Entry
     Entry {
         deadline: 0,
         outcome: Outcome::OnTime(0),
+        slack: Slack::Figure(0),
     }
 }
 
@@ -156,11 +180,13 @@ pub fn entry(table: Table, choice: [u8; 8], place: usize) -> Entry
     requires { ⌜ (tableRefusal table ≡ 0) × (place < table .count) ⌝ }
     ensures { λ r. ⌜ r ≡ entryOf (tasksOf table (table .interval) choice) place ⌝ }
 {
-    let task = table.records[place];
-    let time = response(table, table.interval, choice, place);
+    let deadline = table.records[place].deadline;
+    let limit = workload::wide(LONGEST);
+    let time = response(table, table.interval, choice, place, limit);
     Entry {
-        deadline: task.deadline,
-        outcome: outcome(time),
+        deadline,
+        outcome: outcome(deadline, time),
+        slack: margin(deadline, time),
     }
 }
 
@@ -181,6 +207,16 @@ pub fn entries(table: Table) -> [Entry; 8]
     filled
 }
 
+// Whether the record at a place is late, which a search up to its deadline decides.
+fn is_late(table: Table, interval: u16, choice: [u8; 8], place: usize) -> bool
+    requires { ⌜ (tableRefusal table ≡ 0) × (1 ≤ interval) × (place < table .count) ⌝ }
+    ensures { λ r. ⌜ r ≡ late (tasksOf table interval choice) place ⌝ }
+{
+    let task = table.records[place];
+    let limit = workload::wide(task.deadline);
+    response(table, interval, choice, place, limit) == 0
+}
+
 // Whether no record of a good table is late.
 pub fn passes(table: Table, interval: u16, choice: [u8; 8]) -> bool
     requires { ⌜ (tableRefusal table ≡ 0) × (1 ≤ interval) ⌝ }
@@ -189,7 +225,7 @@ pub fn passes(table: Table, interval: u16, choice: [u8; 8]) -> bool
     let count = table.count as usize;
     let mut place: usize = 0;
     while place < count {
-        if response(table, interval, choice, place) == 0 {
+        if is_late(table, interval, choice, place) {
             return false;
         }
         place += 1;

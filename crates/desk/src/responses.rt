@@ -10,8 +10,7 @@ pub fn print(table: Table) -> bool {
     let mut place: u8 = 0;
     while place < 8 && place < table.count {
         let entry = entries[place as usize];
-        let outcome = entry.outcome;
-        end = report::put_line(report::task_line(place, outcome), &mut buffer, end);
+        end = report::put_line(report::task_line(place, entry), &mut buffer, end);
         place += 1;
     }
     output::write(&buffer, end)

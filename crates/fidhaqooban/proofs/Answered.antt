@@ -19,12 +19,13 @@ use Rattle.sheet.specs.Answers.{readAnswer, placeRefusal}
 use Rattle.sheet.proofs.Turns.{first-of, next-of}
 use Rattle.sheet.proofs.Cases.{good-place}
 use Rattle.sheet.proofs.Demands.{read-good, table-good}
+use Rattle.analysis.specs.declared.Entry.{Entry}
 use Rattle.analysis.specs.declared.Timed.{Timed}
 use Rattle.analysis.specs.declared.Passing.{Passing}
 use Rattle.analysis.specs.declared.Interval.{Interval}
 use Rattle.analysis.specs.declared.Interval.the-variants.{Refused, Least, Nothing}
-use Rattle.analysis.specs.Response.{responseTime, passes}
-use Rattle.analysis.specs.Answers.{ownTasks, outcomeOf, entryOf, timedRefusal, timedAnswer, verdictOf, verdictAnswer, leastInterval, leastOf, intervalAnswer}
+use Rattle.analysis.specs.Response.{passes}
+use Rattle.analysis.specs.Answers.{ownTasks, entryOf, timedRefusal, timedAnswer, verdictOf, verdictAnswer, leastInterval, leastOf, intervalAnswer}
 use Rattle.fidhaqooban.specs.Numbers.{answerOf, timeOf}
 use Rattle.fidhaqooban.specs.Answers.{responseNumber, verdictNumber, intervalNumber}
 
@@ -46,7 +47,7 @@ place-few s place refusal e left =
 
 -- what is known after a sheet is read
 module _ (s : List ℕ) (reading : Reading) (e : reading ≡ readAnswer s) where
-  refusal-read : reading .refusal ≡ sheetRefusal s
+  pub refusal-read : reading .refusal ≡ sheetRefusal s
   unfolding readAnswer
   refusal-read = ap (λ (r : Reading). r .refusal) e
 
@@ -72,12 +73,6 @@ pub bool-number : (b : Bool) → boolByte b ≡ cond b 1 0
 bool-number true = refl
 bool-number false = refl
 
--- an outcome has the time that it is made of
-time-outcome : (time : ℕ) → timeOf (outcomeOf time) ≡ time
-unfolding timeOf outcomeOf
-time-outcome zero = refl
-time-outcome (suc n) = simp (some n)
-
 -- what an interval is as a number
 unfoldable pub intervalAnswered : Interval → ℤ
 intervalAnswered (Refused refusal) = answerOf refusal 0
@@ -100,12 +95,23 @@ module _ (s : List ℕ) (reading : Reading) (e : reading ≡ readAnswer s) (left
   unfolding timedRefusal placeRefusal tableOf
   place-refused place = next-of _ good-table-read ∙ sym (next-of _ (good-read s reading e left))
 
-  pub response-is : (place : ℕ) (timed : Timed) → timed ≡ timedAnswer (reading .table) place → answerOf (timed .refusal) (timeOf (timed .entry .outcome)) ≡ responseNumber s place
-  unfolding timedAnswer entryOf responseNumber
-  response-is place timed given =
-      ap (λ (t : Timed). answerOf (t .refusal) (timeOf (t .entry .outcome))) (given ∙ ap (λ (t : Table). timedAnswer t place) (table-read s reading e left))
-      ∙ answered (timedRefusal (tableOf s) place) _ _ (λ fine. simp fine (time-outcome (responseTime (ownTasks (tableOf s)) place)))
-      ∙ ap (λ (r : ℕ). answerOf r (responseTime (ownTasks (tableOf s)) place)) (place-refused place)
+  -- the entry of a place that is not refused
+  module _ (place : ℕ) (timed : Timed) (given : timed ≡ timedAnswer (reading .table) place) where
+    pub timed-refused : timed .refusal ≡ placeRefusal s place
+    unfolding timedAnswer
+    timed-refused = ap (λ (t : Timed). t .refusal) given ∙ ap (λ (t : Table). timedRefusal t place) (table-read s reading e left) ∙ place-refused place
+
+    pub timed-entry : timed .refusal ≡ 0 → timed .entry ≡ entryOf (ownTasks (tableOf s)) place
+    unfolding timedAnswer
+    timed-entry fine =
+        ap (λ (t : Timed). t .entry) (given ∙ ap (λ (t : Table). timedAnswer t place) (table-read s reading e left))
+        ∙ simp (place-refused place ∙ sym timed-refused ∙ fine)
+
+    pub response-is : answerOf (timed .refusal) (timeOf (timed .entry .outcome)) ≡ responseNumber s place
+    unfolding responseNumber
+    response-is =
+        answered (timed .refusal) _ _ (λ fine. ap (λ (x : Entry). timeOf (x .outcome)) (timed-entry fine))
+        ∙ ap (λ (r : ℕ). answerOf r (timeOf (entryOf (ownTasks (tableOf s)) place .outcome))) timed-refused
 
   pub verdict-is : (passing : Passing) → passing ≡ verdictAnswer (reading .table) → answerOf (passing .refusal) (cond (passing .passes) 1 0) ≡ verdictNumber s
   unfolding verdictAnswer verdictOf verdictNumber

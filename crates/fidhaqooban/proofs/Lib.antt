@@ -2,6 +2,7 @@
 pub mod Minus
 pub mod Fields
 pub mod Answered
+pub mod Slacked
 pub mod Replayed
 pub mod Written
 pub mod Chosen

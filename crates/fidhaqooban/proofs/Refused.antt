@@ -1,34 +1,46 @@
 -- What each function says, in the header's words and document 01's: minus the refusal's number, beside an output that stays as it was, or the value;
 -- and when 11 and 13 are given. Assumes nothing.
 use Prim.Native.Nat.{ℕ, _+_, _*_, _<_}
-use mathlib.Core.Path.{_≡_, refl, _∙_}
-use mathlib.Core.Bool.{true, false}
+use mathlib.Core.Path.{_≡_, refl, sym, _∙_}
+use mathlib.Core.Bool.{Bool, true, false, cond}
 use mathlib.Core.List.{List, [], _∷_, _++_}
 use mathlib.Core.Logic.{_↔_}
 use native.Mathlib.Decide.{ℕ-discrete}
 use native.Mathlib.Omega.{arith}
 use borrow.Author.Tests.{eq-eqb, ne-eqb}
+use lib.Dec.{ltb}
 use lib.IntN.{ℤ, pos, negℤ}
-use lib.ListN.{length, drop}
-use Rattle.sheet.specs.Layout.{sizeOf, tableOf}
+use lib.ListN.{length, set, drop}
+use Rattle.sheet.specs.Places.{orElse}
+use Rattle.sheet.specs.Layout.{sizeOf, countOf, tableOf}
 use Rattle.sheet.specs.Rules.{sheetRefusal}
 use Rattle.sheet.specs.Answers.{writeRefusal, placeRefusal}
-use Rattle.sheet.proofs.Tells.{ltb-tells}
-use Rattle.sheet.proofs.Turns.{next-of}
+use Rattle.sheet.proofs.Tells.{Tells, holds, fails, ltb-tells, eqb-tells}
+use Rattle.sheet.proofs.Turns.{first-of, next-of}
 use Rattle.sheet.proofs.Order.{sheet-in-order}
 use Rattle.sheet.proofs.Demands.{table-good}
 use Rattle.sheet.proofs.Refused.{tried-last, given-if, write-refused-leaves}
-use Rattle.analysis.specs.Response.{responseTime, passes}
-use Rattle.analysis.specs.Answers.{ownTasks, leastInterval}
+use Rattle.analysis.specs.declared.Slack.the-variants.{Figure, NoFigure}
+use Rattle.analysis.specs.Response.{responseTime, late, passes}
+use Rattle.analysis.specs.Answers.{outcomeOf, entryFrom, entryOf, ownTasks, leastInterval}
 use Rattle.analysis.proofs.Choice.{Allowed}
 use Rattle.choices.specs.Choices.{passingOf}
 use Rattle.choices.specs.Order.{afterOf}
 use Rattle.choices.specs.Answers.{walkRefusal, listRefusal}
 use Rattle.choices.proofs.Demands.{Zero, start-13}
 use Rattle.choices.proofs.Refused.{list-11, list-refused-leaves}
-use Rattle.fidhaqooban.specs.Numbers.{answerOf, givenTable, entriesOf, choiceOf, countNumbers}
+use Rattle.fidhaqooban.specs.Numbers.{answerOf, givenTable, timeOf, figuresOf, figureIn, entriesOf, choiceOf, countNumbers}
 use Rattle.replay.specs.Answers.{replayAnswer}
-use Rattle.fidhaqooban.specs.Answers.{writeNumber, writeLeft, rewriteRefusal, rewriteNumber, rewriteLeft, recordNumber, responseNumber, verdictNumber, intervalNumber, firstNumber, nextRefusal, nextNumber, listingRefusal, listNumber, listLeft, replayedRefusal, replayNumber, replayLeft}
+use Rattle.fidhaqooban.specs.Answers.{writeNumber, writeLeft, rewriteRefusal, rewriteNumber, rewriteLeft, recordNumber, responseNumber, slackRefusal, slackNumber, slackLeft, verdictNumber, intervalNumber, firstNumber, nextRefusal, nextNumber, listingRefusal, listNumber, listLeft, replayedRefusal, replayNumber, replayLeft}
+
+-- asking for a place is never refused with 11
+place-not-11 : (sheet : List ℕ) (place : ℕ) → placeRefusal sheet place ≡ 11 → ⊥
+unfolding placeRefusal
+place-not-11 sheet place e = go (ltb place (countOf sheet)) (tried-last (sheetRefusal sheet) 11 (sheet-in-order sheet .range) (omega arith) _ .0 e .1)
+  where
+    go : (b : Bool) → _≡_ {A = ℕ} (cond b 0 12) 11 → ⊥
+    go true h = omega arith
+    go false h = omega arith
 
 -- "A negative answer is minus the refusal number": what an answer is, refused or not
 pub record Said (refusal value : ℕ) (answer : ℤ) : Type 0 where
@@ -76,9 +88,34 @@ module _ (sheet : List ℕ) where
   record-said place = said _ _
 
   -- `fq_response`: "the time; 0 late; -12 for the place"
-  pub response-said : (place : ℕ) → Said (placeRefusal sheet place) (responseTime (ownTasks (tableOf sheet)) place) (responseNumber sheet place)
-  unfolding responseNumber
-  response-said place = said _ _
+  pub response-said : (place : ℕ)
+      → (late (ownTasks (tableOf sheet)) place ≡ true → Said (placeRefusal sheet place) 0 (responseNumber sheet place))
+      × (late (ownTasks (tableOf sheet)) place ≡ false → Said (placeRefusal sheet place) (responseTime (ownTasks (tableOf sheet)) place) (responseNumber sheet place))
+  unfolding responseNumber entryOf entryFrom outcomeOf timeOf
+  response-said place = (λ is. simp is (said _ 0), λ is. simp is (said _ _))
+
+  -- `fq_slack`: "1 with the slack in `out[0]`, 0 where there is no figure"; 11 exactly if the place is not refused and the output is empty; refused, and without a figure, the output stays as it was
+  module _ (place : ℕ) (out : List ℤ) where
+    pub slack-11 : (slackRefusal sheet place out ≡ 11) ↔ ((placeRefusal sheet place ≡ 0) × (length out ≡ 0))
+    unfolding slackRefusal
+    slack-11 = go (ℕ-discrete (placeRefusal sheet place) 0) (eqb-tells (length out) 0)
+      where
+        go : {b : Bool} → Dec (placeRefusal sheet place ≡ 0) → Tells (length out ≡ 0) b → (orElse (placeRefusal sheet place) (cond b 11 0) ≡ 11) ↔ ((placeRefusal sheet place ≡ 0) × (length out ≡ 0))
+        go (yes z) (holds empty) = (λ e. (z, empty), λ h. next-of 11 z)
+        go (yes z) (fails some) = (λ e. absurd (omega (arith, next-of 0 z)), λ h. absurd (some (h .1)))
+        go (no z) side = (λ e. absurd (place-not-11 sheet place (sym (first-of _ _ z) ∙ e)), λ h. absurd (z (h .0)))
+
+    pub slack-figure : (ticks : ℤ) → slackRefusal sheet place out ≡ 0 → entryOf (ownTasks (tableOf sheet)) place .slack ≡ Figure ticks → (slackNumber sheet place out ≡ pos 1) × (slackLeft sheet place out ≡ set out 0 ticks)
+    unfolding slackNumber slackLeft figuresOf figureIn
+    slack-figure ticks fine is = simp (fine, is) (said 0 1 .given refl, refl)
+
+    pub slack-none : slackRefusal sheet place out ≡ 0 → entryOf (ownTasks (tableOf sheet)) place .slack ≡ NoFigure → (slackNumber sheet place out ≡ pos 0) × (slackLeft sheet place out ≡ out)
+    unfolding slackNumber slackLeft figuresOf figureIn
+    slack-none fine is = simp (fine, is) (said 0 0 .given refl, refl)
+
+    pub slack-refused : (slackRefusal sheet place out ≡ 0 → ⊥) → (slackNumber sheet place out ≡ negℤ (pos (slackRefusal sheet place out))) × (slackLeft sheet place out ≡ out)
+    unfolding slackNumber slackLeft
+    slack-refused broken = (said _ _ .refused broken, simp (ne-eqb _ 0 broken))
 
   -- `fq_verdict`: "1 passes, 0 does not"
   pub verdict-said : (passes (ownTasks (tableOf sheet)) ≡ true → Said (sheetRefusal sheet) 1 (verdictNumber sheet))

@@ -5,7 +5,7 @@ use mathlib.Core.List.{List}
 use lib.IntN.{ℤ}
 use Rattle.sheet.specs.Rules.{sheetRefusal}
 use Rattle.sheet.proofs.Unique.{both}
-use Rattle.fidhaqooban.specs.Answers.{writeNumber, writeLeft, rewriteNumber, rewriteLeft, recordNumber, responseNumber, verdictNumber, intervalNumber, nextNumber, listNumber, listLeft, replayNumber, replayLeft}
+use Rattle.fidhaqooban.specs.Answers.{writeNumber, writeLeft, rewriteNumber, rewriteLeft, recordNumber, responseNumber, slackNumber, slackLeft, verdictNumber, intervalNumber, nextNumber, listNumber, listLeft, replayNumber, replayLeft}
 
 pub fq-judge-unique : (sheet : List ℕ) (a b : ℕ) → a ≡ sheetRefusal sheet → b ≡ sheetRefusal sheet → a ≡ b
 fq-judge-unique sheet a b = both
@@ -24,6 +24,10 @@ fq-record-unique sheet place a b = both
 
 pub fq-response-unique : (sheet : List ℕ) (place : ℕ) (a b : ℤ) → a ≡ responseNumber sheet place → b ≡ responseNumber sheet place → a ≡ b
 fq-response-unique sheet place a b = both
+
+pub fq-slack-unique : (sheet : List ℕ) (place : ℕ) (out : List ℤ) (a b : ℤ) (left left′ : List ℤ)
+    → (a ≡ slackNumber sheet place out) × (left ≡ slackLeft sheet place out) → (b ≡ slackNumber sheet place out) × (left′ ≡ slackLeft sheet place out) → (a ≡ b) × (left ≡ left′)
+fq-slack-unique sheet place out a b left left′ p q = (both (p .0) (q .0), both (p .1) (q .1))
 
 pub fq-verdict-unique : (sheet : List ℕ) (a b : ℤ) → a ≡ verdictNumber sheet → b ≡ verdictNumber sheet → a ≡ b
 fq-verdict-unique sheet a b = both

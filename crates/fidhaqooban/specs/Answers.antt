@@ -9,13 +9,13 @@ use Rattle.sheet.specs.Places.{orElse}
 use Rattle.sheet.specs.Layout.{sizeOf, tableOf}
 use Rattle.sheet.specs.Rules.{sheetRefusal}
 use Rattle.sheet.specs.Answers.{writeRefusal, writeLeaves, placeRefusal}
-use Rattle.analysis.specs.Response.{responseTime, passes}
-use Rattle.analysis.specs.Answers.{ownTasks, leastInterval}
+use Rattle.analysis.specs.Response.{passes}
+use Rattle.analysis.specs.Answers.{entryOf, ownTasks, leastInterval}
 use Rattle.choices.specs.Choices.{passingOf}
 use Rattle.choices.specs.Order.{afterOf}
 use Rattle.choices.specs.Answers.{walkRefusal, listRefusal, listLeaves}
 use Rattle.replay.specs.Answers.{replayRefusal, replayAnswer}
-use Rattle.fidhaqooban.specs.Numbers.{answerOf, givenTable, entriesOf, choiceOf, countNumbers}
+use Rattle.fidhaqooban.specs.Numbers.{answerOf, givenTable, timeOf, figuresOf, figureIn, entriesOf, choiceOf, countNumbers}
 
 -- `fq_write`: "bytes written"
 unfoldable pub writeNumber : ℕ → ℕ → List ℕ → List ℕ → ℤ
@@ -43,7 +43,19 @@ recordNumber sheet place = answerOf (placeRefusal sheet place) (3 + 9 * place)
 
 -- `fq_response`: "the time; 0 late; -12 for the place"
 unfoldable pub responseNumber : List ℕ → ℕ → ℤ
-responseNumber sheet place = answerOf (placeRefusal sheet place) (responseTime (ownTasks (tableOf sheet)) place)
+responseNumber sheet place = answerOf (placeRefusal sheet place) (timeOf (entryOf (ownTasks (tableOf sheet)) place .outcome))
+
+-- the refusal of `fq_slack`: that of asking for the place, then 11, where the output has no room for a figure
+unfoldable pub slackRefusal : List ℕ → ℕ → List ℤ → ℕ
+slackRefusal sheet place out = orElse (placeRefusal sheet place) (cond (eqb (length out) 0) 11 0)
+
+-- `fq_slack`: "1 with the slack in `out[0]`, 0 where there is no figure"
+unfoldable pub slackNumber : List ℕ → ℕ → List ℤ → ℤ
+slackNumber sheet place out = answerOf (slackRefusal sheet place out) (figuresOf (entryOf (ownTasks (tableOf sheet)) place .slack))
+
+-- what it leaves in the output: the figure in its first place, or all as it was
+unfoldable pub slackLeft : List ℕ → ℕ → List ℤ → List ℤ
+slackLeft sheet place out = cond (eqb (slackRefusal sheet place out) 0) (figureIn (entryOf (ownTasks (tableOf sheet)) place .slack) out) out
 
 -- `fq_verdict`: "1 passes, 0 does not"
 unfoldable pub verdictNumber : List ℕ → ℤ

@@ -4,7 +4,7 @@ use mathlib.Core.Bool.{cond}
 use mathlib.Core.List.{List, [], _∷_}
 use lib.Dec.{eqb}
 use lib.IntN.{ℤ, pos, negℤ}
-use lib.ListN.{getD, take, replicate}
+use lib.ListN.{getD, set, take, replicate}
 use Rattle.sheet.specs.declared.Record.{Record}
 use Rattle.sheet.specs.declared.Table.{Table}
 use Rattle.sheet.specs.Packing.{packed, unpacked}
@@ -12,6 +12,8 @@ use Rattle.sheet.specs.Layout.{room}
 use Rattle.replay.specs.declared.Counts.{Counts}
 use Rattle.analysis.specs.declared.Outcome.{Outcome}
 use Rattle.analysis.specs.declared.Outcome.the-variants.{OnTime, Late}
+use Rattle.analysis.specs.declared.Slack.{Slack}
+use Rattle.analysis.specs.declared.Slack.the-variants.{Figure, NoFigure}
 
 -- "A negative answer is minus the refusal number."
 unfoldable pub answerOf : ℕ → ℕ → ℤ
@@ -49,6 +51,16 @@ givenTable count interval numbers = tableFrom count interval (take (6 * count) n
 unfoldable pub timeOf : Outcome → ℕ
 timeOf (OnTime time) = time
 timeOf Late = 0
+
+-- how many figures a slack has
+unfoldable pub figuresOf : Slack → ℕ
+figuresOf (Figure ticks) = 1
+figuresOf NoFigure = 0
+
+-- an output with a slack's figure in its first place, or as it was where there is none
+unfoldable pub figureIn : Slack → List ℤ → List ℤ
+figureIn (Figure ticks) out = set out 0 ticks
+figureIn NoFigure out = out
 
 -- "A choice is a number of 32 bits": four bits for each record, the first one highest
 unfoldable pub entriesOf : ℕ → List ℕ

@@ -2,7 +2,7 @@
 // Each function is thin: it reads the sheet, asks the crate that answers, and turns the answer into a number.
 ghost use mathlib.Core.Path.{_≡_};
 ghost use Rattle.sheet.specs.Rules.{sheetRefusal};
-ghost use Rattle.fidhaqooban.specs.Answers.{writeNumber, writeLeft, rewriteNumber, rewriteLeft, recordNumber, responseNumber, verdictNumber, intervalNumber, nextNumber, listNumber, listLeft, replayNumber, replayLeft};
+ghost use Rattle.fidhaqooban.specs.Answers.{writeNumber, writeLeft, rewriteNumber, rewriteLeft, recordNumber, responseNumber, slackNumber, slackLeft, verdictNumber, intervalNumber, nextNumber, listNumber, listLeft, replayNumber, replayLeft};
 use analysis::Interval;
 use choices::Arrival;
 use choices::Walk;
@@ -66,6 +66,28 @@ pub extern "C" fn fq_response(sheet: &[u8], place: usize) -> i64
     let entry = timed.entry;
     let outcome = entry.outcome;
     numbers::answer(timed.refusal, numbers::time_of(outcome))
+}
+
+// Puts the slack of the record at a place, the deadline less the response time, into the output: 1, or 0 where there is no figure.
+#[no_mangle]
+pub extern "C" fn fq_slack(sheet: &[u8], place: usize, out: &mut [i32]) -> i64
+    ensures { λ r. ⌜ (r ≡ slackNumber (now (sheet .entry)) place (now (out .entry))) × (now (out .exit) ≡ slackLeft (now (sheet .entry)) place (now (out .entry))) ⌝ }
+{
+    let reading = sheet::read(sheet);
+    if reading.refusal != 0 {
+        return numbers::answer(reading.refusal, 0);
+    }
+    let table = reading.table;
+    let timed = analysis::response_time(table, place);
+    if timed.refusal != 0 {
+        return numbers::answer(timed.refusal, 0);
+    }
+    if out.len() == 0 {
+        return numbers::answer(11, 0);
+    }
+    let entry = timed.entry;
+    let slack = entry.slack;
+    numbers::answer(0, numbers::put_figure(slack, out))
 }
 
 // 1 where the sheet passes, 0 where it does not.

@@ -4,8 +4,9 @@ ghost use Prim.Native.Nat.{_≤_, _<_, _^_};
 ghost use lib.ListN.{length};
 ghost use lib.Seq.{sets};
 ghost use Rattle.choices.specs.Stepping.{small};
-ghost use Rattle.fidhaqooban.specs.Numbers.{answerOf, numberAt, byteOf, givenRecord, tableFrom, givenTable, timeOf, entriesOf, choiceOf, countNumbers};
+ghost use Rattle.fidhaqooban.specs.Numbers.{answerOf, numberAt, byteOf, givenRecord, tableFrom, givenTable, timeOf, figuresOf, figureIn, entriesOf, choiceOf, countNumbers};
 use analysis::Outcome;
+use analysis::Slack;
 use replay::Counts;
 use sheet::Record;
 use sheet::Table;
@@ -90,6 +91,20 @@ pub fn time_of(outcome: Outcome) -> usize
     match outcome {
         Outcome::OnTime(time) => time as usize,
         Outcome::Late => 0,
+    }
+}
+
+// Puts a slack's figure into an output that has room: how many figures it has.
+pub fn put_figure(slack: Slack, out: &mut [i32]) -> usize
+    requires { ⌜ 1 ≤ length (now out) ⌝ }
+    ensures { λ r. ⌜ (r ≡ figuresOf slack) × (r ≤ 1) × (now (out .exit) ≡ figureIn slack (now (out .entry))) ⌝ }
+{
+    match slack {
+        Slack::Figure(ticks) => {
+            out[0] = ticks;
+            1
+        }
+        Slack::NoFigure => 0,
     }
 }
 

@@ -1,23 +1,23 @@
 -- The demands on lines in words, about the definitions: a decimal spells its number, in digits only and without a leading zero, a line holds its whole text, and one without room is not put.
 -- Document 01's own lines, byte by byte, are in Lines.antt. Assumes nothing.
 use Prim.Native.Nat.{ℕ, zero, suc, _+_, _-_, _*_, _/_, _%_, _^_, _≤_, _<_, min}
-use mathlib.Core.Path.{_≡_, refl, sym, _∙_}
+use mathlib.Core.Path.{_≡_, refl, sym, ap, _∙_}
 use mathlib.Core.List.{List, [], _∷_, _++_}
 use mathlib.Core.Logic.{⊎-elim}
 use native.Mathlib.Nat.{mod-lt, div-add-mod', le-div-iff-mul-le, eq-or-lt-of-le}
 use native.Mathlib.Omega.{arith}
 use borrow.Author.Tests.{le-leb, lt-leb}
+use lib.IntN.{ℤ, pos, negsuc}
 use lib.ListN.{length, getD, length-append, List·getD-append}
 use lib.Seq.{sets, getD-at}
-use Rattle.analysis.specs.declared.Outcome.{Outcome}
-use Rattle.analysis.specs.declared.Outcome.the-variants.{OnTime}
+use Rattle.analysis.specs.declared.Entry.{Entry}
 use Rattle.report.specs.declared.Line.{Line}
 use Rattle.report.specs.Pages.{textOf, hasRoom, putEnd, putLeaves}
 use Rattle.report.specs.Words.{intervalWord, endWord, refusedWord}
-use Rattle.report.specs.Decimal.{digit, decimal, valueAfter, valueOf}
+use Rattle.report.specs.Decimal.{digit, decimal, signed, valueAfter, valueOf}
 use Rattle.report.specs.Texts.{intervalText, taskText, passText, endText, refusedText}
 use Rattle.report.proofs.Decimal.{by-digits, length-decimal}
-use Rattle.report.proofs.Fitting.{Held, held, held-number, length-outcome, length-entries}
+use Rattle.report.proofs.Fitting.{Held, held, held-number, Narrow, length-outcome, length-entries}
 
 value-more : (before : ℕ) (ds : List ℕ) (d : ℕ) → valueAfter before (ds ++ (d ∷ [])) ≡ valueAfter before ds * 10 + (d - 48)
 unfolding valueAfter
@@ -64,14 +64,38 @@ no-leading-zero n = by-digits (λ n ds. (0 < length ds) × (getD ds 0 0 ≡ digi
       λ e. absurd (omega (arith, again .1 (sym (List·getD-append ds (digit (n % 10) ∷ []) 0 0 (again .0)) ∙ e), le-div-iff-mul-le {k = 10} {x = 1} {y = n} (omega arith) .1 (omega arith))),
     )
 
+-- a decimal does not begin with a minus sign
+minus-no-digit : (n : ℕ) → getD (decimal n) 0 0 ≡ 45 → ⊥
+minus-no-digit n e = go (decimal n) (digits-only n) (some-digit n) e
+  where
+    some-digit : (n : ℕ) → 0 < length (decimal n)
+    some-digit n = by-digits (λ n ds. 0 < length ds) (λ n small. omega arith) (λ n ds large again. omega (arith, length-append ds (digit (n % 10) ∷ []))) n
+
+    go : (ds : List ℕ) → OfDigits ds → 0 < length ds → getD ds 0 0 ≡ 45 → ⊥
+    go ds only some is = omega (arith, only 0 some)
+
+-- all but the first
+tail : List ℕ → List ℕ
+tail [] = []
+tail (d ∷ ds) = ds
+
+-- two numbers with a sign are not written alike: the minus sign is no digit
+pub signed-tells : (a b : ℤ) → signed a ≡ signed b → a ≡ b
+unfolding signed tail
+signed-tells (pos a) (pos b) e = ap pos (sym (spells-its-number a) ∙ ap valueOf e ∙ spells-its-number b)
+signed-tells (negsuc a) (negsuc b) e = let same = sym (spells-its-number (suc a)) ∙ ap valueOf (ap tail e) ∙ spells-its-number (suc b) in ap negsuc (omega arith)
+signed-tells (pos a) (negsuc b) e = absurd (minus-no-digit a (ap (λ (l : List ℕ). getD l 0 0) e))
+signed-tells (negsuc a) (pos b) e = absurd (minus-no-digit b (sym (ap (λ (l : List ℕ). getD l 0 0) e)))
+
 -- a line holds its whole text, whatever the call is given: the interval's,
 pub interval-held : (interval : ℕ) → interval < 2 ^ 16 → Held (intervalText interval)
 interval-held interval narrow = held-number intervalWord interval (omega arith) (omega arith)
 
 -- a task's,
-pub task-held : (place : ℕ) (outcome : Outcome) → place < 2 ^ 8 → ((time : ℕ) → outcome ≡ OnTime time → time < 2 ^ 16) → Held (taskText place outcome)
+pub task-held : (place : ℕ) (entry : Entry) → place < 2 ^ 8 → Narrow (entry .outcome) (entry .slack) → Held (taskText place entry)
 unfolding taskText
-task-held place outcome narrow short = held (taskText place outcome) (simp length-append (omega (arith, length-decimal 2 (place + 1) (omega arith), length-outcome outcome short)))
+task-held place entry narrow short =
+    held (taskText place entry) (simp length-append (omega (arith, length-decimal 2 (place + 1) (omega arith), length-outcome (entry .outcome) (entry .slack) short)))
 
 -- a choice's,
 pub pass-held : (count : ℕ) (choice : List ℕ) → ((place : ℕ) → getD choice place 0 < 2 ^ 8) → Held (passText count choice)

@@ -3,15 +3,20 @@ use Prim.Native.Nat.{ℕ, zero, suc, _*_, _^_, _≤_, _<_}
 use mathlib.Core.Path.{_≡_, refl, ap, _∙_}
 use mathlib.Core.List.{List, _++_}
 use native.Mathlib.Omega.{arith}
+use lib.IntN.{ℤ}
+use lib.Signed.{mag}
 use lib.ListN.{length, getD, take, replicate, length-append}
 use lib.Seq.{sets-eq, take-at}
 use Rattle.sheet.specs.Places.{joinedBelow}
 use Rattle.analysis.specs.declared.Outcome.{Outcome}
 use Rattle.analysis.specs.declared.Outcome.the-variants.{OnTime, Late}
+use Rattle.analysis.specs.declared.Slack.{Slack}
+use Rattle.analysis.specs.declared.Slack.the-variants.{Figure, NoFigure}
 use Rattle.report.specs.Words.{newline}
 use Rattle.report.specs.Decimal.{decimal}
-use Rattle.report.specs.Texts.{lineOf, outcomeText, entryText}
+use Rattle.report.specs.Texts.{lineOf, lateText, outcomeText, entryText}
 use Rattle.report.proofs.Decimal.{length-decimal}
+use Rattle.report.proofs.Signs.{length-signed}
 
 -- the bytes of a text's line, up to its length, are the text
 abbrev pub Held : List ℕ → Type 0
@@ -25,11 +30,17 @@ held text fits = ap (take (length text)) (sets-eq text (replicate 40 0) 0 (omega
 pub held-number : (word : List ℕ) (n : ℕ) → length word ≤ 19 → n < 2 ^ 64 → Held (word ++ decimal n ++ newline)
 held-number word n short narrow = held (word ++ decimal n ++ newline) (simp length-append (omega (arith, length-decimal 19 n (omega arith))))
 
--- a response has at most five bytes
-pub length-outcome : (outcome : Outcome) → ((time : ℕ) → outcome ≡ OnTime time → time < 2 ^ 16) → length (outcomeText outcome) ≤ 5
-unfolding outcomeText
-length-outcome (OnTime time) narrow = length-decimal 4 time (omega (arith, narrow time refl))
-length-outcome Late narrow = omega arith
+-- a figure has 32 bits, and a time 16
+pub record Narrow (outcome : Outcome) (slack : Slack) : Type 0 where
+  pub time : (time : ℕ) → outcome ≡ OnTime time → time < 2 ^ 16
+  pub ticks : (ticks : ℤ) → slack ≡ Figure ticks → mag ticks < 2 ^ 31
+
+-- a response, or late with its slack, has at most sixteen bytes
+pub length-outcome : (outcome : Outcome) (slack : Slack) → Narrow outcome slack → length (outcomeText outcome slack) ≤ 16
+unfolding outcomeText lateText
+length-outcome (OnTime time) slack narrow = omega (arith, length-decimal 4 time (omega (arith, narrow .time time refl)))
+length-outcome Late (Figure ticks) narrow = omega (arith, length-signed ticks (narrow .ticks ticks refl))
+length-outcome Late NoFigure narrow = omega arith
 
 -- an entry has at most four
 pub length-entries : (choice : List ℕ) → ((place : ℕ) → getD choice place 0 < 2 ^ 8) → (n : ℕ) → length (joinedBelow (entryText choice) n) ≤ 4 * n

@@ -1,6 +1,7 @@
 -- Laws that belong to no one function.
 pub mod Decimal
 pub mod Putting
+pub mod Signs
 pub mod Pages
 pub mod Fitting
 pub mod Lines

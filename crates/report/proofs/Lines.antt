@@ -1,18 +1,30 @@
--- Whole lines as literal bytes, by computation: document 01's "Whole output" of Sheet A line by line, and a refused one. Assumes nothing.
+-- Whole lines as literal bytes, by computation: document 01's "Whole output" of Sheet A line by line, as document 02's request 2 has it, a task that is late without a figure, and a refused sheet. Assumes nothing.
 use Prim.Native.Nat.{ℕ}
 use mathlib.Core.Path.{_≡_, refl}
 use mathlib.Core.List.{List, [], _∷_}
+use lib.IntN.{pos, negsuc}
 use lib.ListN.{length}
 use Rattle.sheet.specs.Places.{joinedBelow}
 use Rattle.analysis.specs.declared.Outcome.the-variants.{OnTime, Late}
+use Rattle.analysis.specs.declared.Slack.{Slack}
+use Rattle.analysis.specs.declared.Slack.the-variants.{Figure, NoFigure}
+use Rattle.analysis.specs.declared.Entry.{Entry}
 use Rattle.report.specs.declared.Line.{Line}
-use Rattle.report.specs.Decimal.{decimalWithin, decimal}
-use Rattle.report.specs.Texts.{lineOf, intervalText, outcomeText, taskText, entryText, passText, endText, refusedText}
+use Rattle.report.specs.Decimal.{decimalWithin, decimal, signed}
+use Rattle.report.specs.Texts.{lineOf, intervalText, lateText, outcomeText, taskText, entryText, passText, endText, refusedText}
 use Rattle.report.specs.Pages.{textOf}
 
 -- three entries as a choice
 unfoldable pub choice : ℕ → ℕ → ℕ → List ℕ
 choice first second third = first ∷ second ∷ third ∷ 0 ∷ 0 ∷ 0 ∷ 0 ∷ 0 ∷ []
+
+-- an entry that is on time, with its slack
+unfoldable pub timed : ℕ → ℕ → Entry
+timed time slack = record { deadline = 0; outcome = OnTime time; slack = Figure (pos slack) }
+
+-- an entry that is late, with its slack
+unfoldable pub late : Slack → Entry
+late slack = record { deadline = 0; outcome = Late; slack = slack }
 
 -- a row: a line that a call answers, and the bytes that document 01 prints
 pub data Row : Type 0 where
@@ -29,11 +41,13 @@ lines =
     -- interval 9\n
     prints (lineOf (intervalText 9)) (105 ∷ 110 ∷ 116 ∷ 101 ∷ 114 ∷ 118 ∷ 97 ∷ 108 ∷ 32 ∷ 57 ∷ 10 ∷ []) ∷
     -- task 1 8\n
-    prints (lineOf (taskText 0 (OnTime 8))) (116 ∷ 97 ∷ 115 ∷ 107 ∷ 32 ∷ 49 ∷ 32 ∷ 56 ∷ 10 ∷ []) ∷
+    prints (lineOf (taskText 0 (timed 8 4))) (116 ∷ 97 ∷ 115 ∷ 107 ∷ 32 ∷ 49 ∷ 32 ∷ 56 ∷ 10 ∷ []) ∷
+    -- task 2 late -3\n
+    prints (lineOf (taskText 1 (late (Figure (negsuc 2))))) (116 ∷ 97 ∷ 115 ∷ 107 ∷ 32 ∷ 50 ∷ 32 ∷ 108 ∷ 97 ∷ 116 ∷ 101 ∷ 32 ∷ 45 ∷ 51 ∷ 10 ∷ []) ∷
     -- task 2 late\n
-    prints (lineOf (taskText 1 Late)) (116 ∷ 97 ∷ 115 ∷ 107 ∷ 32 ∷ 50 ∷ 32 ∷ 108 ∷ 97 ∷ 116 ∷ 101 ∷ 10 ∷ []) ∷
+    prints (lineOf (taskText 1 (late NoFigure))) (116 ∷ 97 ∷ 115 ∷ 107 ∷ 32 ∷ 50 ∷ 32 ∷ 108 ∷ 97 ∷ 116 ∷ 101 ∷ 10 ∷ []) ∷
     -- task 3 35\n
-    prints (lineOf (taskText 2 (OnTime 35))) (116 ∷ 97 ∷ 115 ∷ 107 ∷ 32 ∷ 51 ∷ 32 ∷ 51 ∷ 53 ∷ 10 ∷ []) ∷
+    prints (lineOf (taskText 2 (timed 35 0))) (116 ∷ 97 ∷ 115 ∷ 107 ∷ 32 ∷ 51 ∷ 32 ∷ 51 ∷ 53 ∷ 10 ∷ []) ∷
     -- pass 1 1 1\n
     prints (lineOf (passText 3 (choice 1 1 1))) (112 ∷ 97 ∷ 115 ∷ 115 ∷ 32 ∷ 49 ∷ 32 ∷ 49 ∷ 32 ∷ 49 ∷ 10 ∷ []) ∷
     -- pass 1 2 1\n
@@ -46,5 +60,5 @@ lines =
 
 -- each of them is what document 01 prints
 pub lines-hold : All lines
-unfolding lines choice lineOf textOf taskText outcomeText passText entryText joinedBelow decimal decimalWithin
-lines-hold = one refl refl (one refl refl (one refl refl (one refl refl (one refl refl (one refl refl (one refl refl (one refl refl none)))))))
+unfolding lines choice timed late lineOf textOf taskText outcomeText lateText passText entryText joinedBelow signed decimal decimalWithin
+lines-hold = one refl refl (one refl refl (one refl refl (one refl refl (one refl refl (one refl refl (one refl refl (one refl refl (one refl refl none))))))))

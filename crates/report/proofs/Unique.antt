@@ -3,7 +3,7 @@ use mathlib.Core.Path.{_≡_}
 use mathlib.Core.List.{List}
 use Prim.Native.Nat.{ℕ}
 use Rattle.sheet.proofs.Unique.{both}
-use Rattle.analysis.specs.declared.Outcome.{Outcome}
+use Rattle.analysis.specs.declared.Entry.{Entry}
 use Rattle.report.specs.declared.Line.{Line}
 use Rattle.report.specs.Texts.{lineOf, intervalText, taskText, passText, endText, refusedText}
 use Rattle.report.specs.Pages.{putEnd, putLeaves}
@@ -11,8 +11,8 @@ use Rattle.report.specs.Pages.{putEnd, putLeaves}
 pub interval-line-unique : (interval : ℕ) (a b : Line) → a ≡ lineOf (intervalText interval) → b ≡ lineOf (intervalText interval) → a ≡ b
 interval-line-unique interval a b = both
 
-pub task-line-unique : (place : ℕ) (outcome : Outcome) (a b : Line) → a ≡ lineOf (taskText place outcome) → b ≡ lineOf (taskText place outcome) → a ≡ b
-task-line-unique place outcome a b = both
+pub task-line-unique : (place : ℕ) (entry : Entry) (a b : Line) → a ≡ lineOf (taskText place entry) → b ≡ lineOf (taskText place entry) → a ≡ b
+task-line-unique place entry a b = both
 
 pub pass-line-unique : (count : ℕ) (choice : List ℕ) (a b : Line) → a ≡ lineOf (passText count choice) → b ≡ lineOf (passText count choice) → a ≡ b
 pass-line-unique count choice a b = both

@@ -2,7 +2,7 @@
 ghost use mathlib.Core.Path.{_≡_};
 ghost use Rattle.report.specs.Texts.{lineOf, intervalText, taskText, passText, endText, refusedText};
 ghost use Rattle.report.specs.Pages.{putEnd, putLeaves};
-use analysis::Outcome;
+use analysis::Entry;
 
 mod page;
 mod text;
@@ -20,14 +20,16 @@ pub fn interval_line(interval: u16) -> Line
     text::numbered(b"interval ", interval as u64)
 }
 
-// A task's response. The place is counted from 0 and printed from 1.
-pub fn task_line(place: u8, outcome: Outcome) -> Line
-    ensures { λ r. ⌜ r ≡ lineOf (taskText place outcome) ⌝ }
+// A task's response, or that it is late and by how much. The place is counted from 0 and printed from 1.
+pub fn task_line(place: u8, entry: Entry) -> Line
+    ensures { λ r. ⌜ r ≡ lineOf (taskText place entry) ⌝ }
 {
+    let outcome = entry.outcome;
+    let slack = entry.slack;
     let line = text::begun(b"task ");
     let line = text::with_number(line, place as u64 + 1);
     let line = text::with_word(line, b" ");
-    let line = text::with_outcome(line, outcome);
+    let line = text::with_outcome(line, outcome, slack);
     text::with_word(line, b"\n")
 }
 

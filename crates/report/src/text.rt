@@ -4,11 +4,15 @@ ghost use mathlib.Core.List.{[], _∷_, _++_};
 ghost use Prim.Native.Nat.{_+_, _≤_, _<_, min};
 ghost use lib.ListN.{length};
 ghost use Rattle.report.specs.Words.{space, newline};
-ghost use Rattle.report.specs.Decimal.{digit, decimal};
-ghost use Rattle.report.specs.Texts.{lineOf, outcomeText};
+ghost use mathlib.Core.Bool.{true};
+ghost use lib.IntN.{pos, natAbs};
+ghost use lib.Signed.{ltZ};
+ghost use Rattle.report.specs.Decimal.{digit, decimal, signed};
+ghost use Rattle.report.specs.Texts.{lineOf, lateText, outcomeText};
 ghost use Rattle.report.specs.Putting.{Room, put};
 use crate::Line;
 use analysis::Outcome;
+use analysis::Slack;
 
 // One byte more.
 fn with_byte(line: Line, byte: u8) -> Line
@@ -74,14 +78,44 @@ pub fn numbered(word: &[u8], number: u64) -> Line
     with_word(with_number(begun(word), number), b"\n")
 }
 
-// A response, or the word late.
-pub fn with_outcome(line: Line, outcome: Outcome) -> Line
-    requires { ⌜ Room line 5 ⌝ }
-    ensures { λ r. ⌜ (r ≡ put line (outcomeText outcome)) × (r .len ≤ line .len + 5) ⌝ }
+// How far a negative number is below 0.
+fn magnitude(number: i32) -> u64
+    requires { ⌜ ltZ number (pos 0) ≡ true ⌝ }
+    ensures { λ r. ⌜ (r ≡ natAbs number) × (r ≤ 2147483648) ⌝ }
+{
+    (0 - number as i64) as u64
+}
+
+// A number in decimal, after a minus sign if it is negative.
+fn with_signed(line: Line, number: i32) -> Line
+    requires { ⌜ Room line 11 ⌝ }
+    ensures { λ r. ⌜ (r ≡ put line (signed number)) × (r .len ≤ line .len + 11) ⌝ }
+{
+    if number < 0 {
+        return with_number(with_byte(line, b'-'), magnitude(number));
+    }
+    with_number(line, number as u64)
+}
+
+// The word late, and after it the slack where there is one.
+fn with_late(line: Line, slack: Slack) -> Line
+    requires { ⌜ Room line 16 ⌝ }
+    ensures { λ r. ⌜ (r ≡ put line (lateText slack)) × (r .len ≤ line .len + 16) ⌝ }
+{
+    match slack {
+        Slack::Figure(ticks) => with_signed(with_word(line, b"late "), ticks),
+        Slack::NoFigure => with_word(line, b"late"),
+    }
+}
+
+// A response, or that it is late and by how much.
+pub fn with_outcome(line: Line, outcome: Outcome, slack: Slack) -> Line
+    requires { ⌜ Room line 16 ⌝ }
+    ensures { λ r. ⌜ (r ≡ put line (outcomeText outcome slack)) × (r .len ≤ line .len + 16) ⌝ }
 {
     match outcome {
         Outcome::OnTime(time) => with_number(line, time as u64),
-        Outcome::Late => with_word(line, b"late"),
+        Outcome::Late => with_late(line, slack),
     }
 }
 

@@ -1,5 +1,7 @@
 // What is answered in each form of row. A row's figures are its call's arguments, in their order.
+use analysis::Entry;
 use analysis::Outcome;
+use analysis::Slack;
 use report::Line;
 
 // What each byte of an output holds before a line is put into it.
@@ -41,16 +43,36 @@ pub fn interval(list: &[u8], start: usize, at: usize) -> usize {
     say_line(list, at, report::interval_line(wide(list, start, 1)))
 }
 
+// The line of a task with an outcome and a slack, its place the first figure.
+fn say_task(list: &[u8], start: usize, at: usize, outcome: Outcome, slack: Slack) -> usize {
+    let entry = Entry {
+        deadline: 0,
+        outcome,
+        slack,
+    };
+    say_line(list, at, report::task_line(short(list, start, 1), entry))
+}
+
 // The line of a task on time.
 pub fn on_time(list: &[u8], start: usize, at: usize) -> usize {
     let outcome = Outcome::OnTime(wide(list, start, 2));
-    say_line(list, at, report::task_line(short(list, start, 1), outcome))
+    say_task(list, start, at, outcome, Slack::Figure(0))
 }
 
-// The line of a task that is late.
+// The line of a task that is late without a figure.
 pub fn late(list: &[u8], start: usize, at: usize) -> usize {
-    let outcome = Outcome::Late;
-    say_line(list, at, report::task_line(short(list, start, 1), outcome))
+    say_task(list, start, at, Outcome::Late, Slack::NoFigure)
+}
+
+// The first number less the second.
+fn difference(first: u16, second: u16) -> i32 {
+    first as i32 - second as i32
+}
+
+// The line of a task that is late with a slack, the second figure less the third.
+pub fn late_by(list: &[u8], start: usize, at: usize) -> usize {
+    let ticks = difference(wide(list, start, 2), wide(list, start, 3));
+    say_task(list, start, at, Outcome::Late, Slack::Figure(ticks))
 }
 
 // The line of a choice: the count and eight entries.

@@ -31,6 +31,7 @@ fn row(tally: Tally, list: &[u8], start: usize) -> Tally {
         b'i' => answers::interval(list, start, at),
         b't' => answers::on_time(list, start, at),
         b'l' => answers::late(list, start, at),
+        b's' => answers::late_by(list, start, at),
         b'p' => answers::pass(list, start, at),
         b'e' => answers::end(list, start, at),
         b'r' => answers::refused(list, start, at),

@@ -16,7 +16,7 @@ returns c =
     let given = c .before .before .before .before .before .before .before .before in
     let placed = line-more taskWord (decimal (given .args .place + 1)) (c .before .before .before .before .before .before .begun .ensures) (c .before .before .before .before .before .with-number .ensures) in
     let spaced = line-more _ space placed (c .before .before .before .with-word .ensures) in
-    line-more _ newline (line-more _ (outcomeText (given .args .outcome)) spaced (c .before .before .with-outcome .ensures .0)) (c .with-word2 .ensures)
+    line-more _ newline (line-more _ (outcomeText (given .args .entry .outcome) (given .args .entry .slack)) spaced (c .before .before .with-outcome .ensures .0)) (c .with-word2 .ensures)
 
 slice-aggregate-begun : tie.Need-slice-aggregate-begun
 slice-aggregate-begun c = search needs

@@ -1,5 +1,5 @@
 -- `analysis::response::elsewhere` meets its contract. Assumes nothing.
-use mathlib.Core.Path.{_∙_}
+use mathlib.Core.Path.{refl, _∙_}
 use native.Mathlib.Omega.{arith}
 use Rattle.sheet.specs.Layout.{recordAt}
 use Rattle.sheet.proofs.Cases.{good-table}
@@ -22,9 +22,6 @@ largest-requires : tie.Need-largest-requires
 largest-requires c κs =
     good-table (c .before .before .args .t1) (c .before .before .pre .0) .count .1
 
-wide-requires-2 : tie.Need-wide-requires-2
-wide-requires-2 c κs = search needs
-
 climb-requires : tie.Need-climb-requires
 climb-requires c κs =
     search needs
@@ -32,9 +29,9 @@ climb-requires c κs =
 returns : tie.Need-returns
 unfolding recordAt
 returns c =
-    let given = c .before .before .before .before .before in (
+    let given = c .before .before .before .before in (
       c .climb .ensures .0
-          ∙ elsewhere-found (given .args .t1) (given .args .interval) (given .args .choice) (given .args .place) (c .before .before .before .wide .ensures .0) (c .before .before .largest .ensures) (c .before .wide2 .ensures .0),
+          ∙ elsewhere-found (given .args .t1) (given .args .interval) (given .args .choice) (given .args .place) (c .before .before .wide .ensures .0) (c .before .largest .ensures) refl,
       c .climb .ensures .1,
     )
 
@@ -46,6 +43,5 @@ elsewhere-spec =
     element-copy-out-task
     wide-requires
     largest-requires
-    wide-requires-2
     climb-requires
     returns)

@@ -14,7 +14,7 @@ length-one-requires c κs = search needs
 
 returns : tie.Need-returns
 returns c =
-    (itself-none _ _ (sym (c .before .length-one .ensures .0) ∙ c .if1 .taken), search needs)
+    (itself-none _ _ _ (sym (c .before .length-one .ensures .0) ∙ c .if1 .taken), search needs)
 
 stage-two-requires : tie.Need-stage-two-requires
 stage-two-requires c κs =
@@ -26,8 +26,8 @@ returns-2 c =
     let s = tasksOf (given .args .table) (given .args .interval) (given .args .choice) in
     let first = c .before .before .length-one .ensures .0 in (
       c .stage-two .ensures .0
-          ∙ ap (λ (n : ℕ). leastWithin (stageTwo s (given .args .place) n) n (s .at (given .args .place) .deadline)) first
-          ∙ itself-some s (given .args .place) (λ e. c .before .if1 .left (first ∙ e)),
+          ∙ ap (λ (n : ℕ). leastWithin (stageTwo s (given .args .place) n) n (given .args .limit)) first
+          ∙ itself-some (given .args .limit) s (given .args .place) (λ e. c .before .if1 .left (first ∙ e)),
       c .stage-two .ensures .1,
     )
 

@@ -1,5 +1,5 @@
 -- `analysis::response::length_one` meets its contract. Assumes nothing.
-use mathlib.Core.Path.{_∙_}
+use mathlib.Core.Path.{refl, _∙_}
 use native.Mathlib.Omega.{arith}
 use Rattle.sheet.specs.Layout.{recordAt}
 use Rattle.sheet.proofs.Cases.{good-table}
@@ -29,18 +29,15 @@ wide-requires c κs = search needs
 wide-requires-2 : tie.Need-wide-requires-2
 wide-requires-2 c κs = search needs
 
-wide-requires-3 : tie.Need-wide-requires-3
-wide-requires-3 c κs = search needs
-
 climb-requires : tie.Need-climb-requires
 climb-requires c κs = search needs
 
 returns : tie.Need-returns
 unfolding recordAt
 returns c =
-    let given = c .before .before .before .before .before .before in (
+    let given = c .before .before .before .before .before in (
       c .climb .ensures .0
-          ∙ one-found (given .args .t1) (given .args .interval) (given .args .t3) (given .args .place) (given .pre .1) (c .before .before .before .wide .ensures .0) (c .before .before .before .before .largest-of-all .ensures) (c .before .before .wide2 .ensures .0) (c .before .wide3 .ensures .0),
+          ∙ one-found (given .args .t1) (given .args .interval) (given .args .t3) (given .args .place) (given .pre .1) (c .before .before .wide .ensures .0) (c .before .before .before .largest-of-all .ensures) (c .before .wide2 .ensures .0) refl,
       c .climb .ensures .1,
     )
 
@@ -54,6 +51,5 @@ length-one-spec =
     largest-of-all-requires
     wide-requires
     wide-requires-2
-    wide-requires-3
     climb-requires
     returns)

@@ -3,11 +3,10 @@ use Prim.Native.Nat.{_≤_, _-_}
 use mathlib.Core.Path.{_≡_, sym, ap, _∙_}
 use mathlib.Core.Bool.{false, not}
 use native.Mathlib.Omega.{arith}
-use borrow.Author.Tests.{eq-eqb, ne-eqb}
 use Rattle.sheet.specs.Places.{someBelow}
 use Rattle.analysis.specs.Tasks.{tasksOf}
-use Rattle.analysis.specs.Response.{responseTime, passes}
-use Rattle.analysis.proofs.Verdicts.{late, some-more, some-found}
+use Rattle.analysis.specs.Response.{late, passes}
+use Rattle.analysis.proofs.Verdicts.{some-more, some-found}
 use borrow.Author.Needs.{needs}
 use Rattle.analysis.proofs.response.passes.Statement.{statement}
 use Rattle.analysis.proofs.response.passes.Tie as tie
@@ -25,8 +24,8 @@ loop-holds : tie.Need-loop-holds Inv-loop μ-loop
 unfolding someBelow
 loop-holds c = search needs
 
-response-requires : tie.Need-response-requires Inv-loop μ-loop
-response-requires c κs =
+is-late-requires : tie.Need-is-late-requires Inv-loop μ-loop
+is-late-requires c κs =
     (c .before .before .before .pre .0, c .before .before .before .pre .1, c .loop-test .taken)
 
 returns : tie.Need-returns Inv-loop μ-loop
@@ -35,7 +34,7 @@ returns c =
     let given = c .before .before .before .before .before in
     let s = tasksOf (given .args .table) (given .args .interval) (given .args .choice) in
     let place = c .before .before .before .loop .place in
-    sym (ap not (some-found (late s) place (given .args .table .count) (c .before .before .loop-test .taken) (eq-eqb (responseTime s place) 0 (sym (c .before .response .ensures) ∙ c .if1 .taken))))
+    sym (ap not (some-found (late s) place (given .args .table .count) (c .before .before .loop-test .taken) (sym (c .before .is-late .ensures) ∙ c .if1 .taken)))
 
 add-place : tie.Need-add-place Inv-loop μ-loop
 add-place c = search needs
@@ -48,7 +47,7 @@ loop-again c =
     let given = c .before .before .before .before .before in
     let s = tasksOf (given .args .table) (given .args .interval) (given .args .choice) in
     let at = c .before .before .before .loop in
-    (search needs, some-more (late s) (at .place) (at .inv .1) (ne-eqb (responseTime s (at .place)) 0 (λ e. c .if1 .left (c .before .response .ensures ∙ e))))
+    (search needs, some-more (late s) (at .place) (at .inv .1) (sym (c .before .is-late .ensures) ∙ c .if1 .left))
 
 returns-2 : tie.Need-returns-2 Inv-loop μ-loop
 unfolding passes
@@ -66,7 +65,7 @@ passes-spec =
     μ-loop
     cast-count
     loop-holds
-    response-requires
+    is-late-requires
     returns
     add-place
     loop-less

@@ -4,7 +4,7 @@ use Prim.Native.Nat.{max}
 use native.Mathlib.Omega.{arith}
 use Rattle.analysis.proofs.Verdicts.{late-elsewhere, late-itself, on-time}
 use Rattle.analysis.specs.Tasks.{tasksOf}
-use Rattle.analysis.specs.Response.{responseTime}
+use Rattle.analysis.specs.Response.{responseWithin}
 use borrow.Author.Needs.{needs}
 use Rattle.analysis.proofs.response.response.Statement.{statement}
 use Rattle.analysis.proofs.response.response.Tie as tie
@@ -12,19 +12,19 @@ use Rattle.analysis.proofs.response.response.Tie as tie
 -- where neither time is missing, the larger is the response
 both : (c : tie.Else2)
     → let given = c .before .before .before .before in
-    max (c .before .before .before .elsewhere .result) (c .before .itself .result) ≡ responseTime (tasksOf (given .args .table) (given .args .interval) (given .args .choice)) (given .args .place)
+    max (c .before .before .before .elsewhere .result) (c .before .itself .result) ≡ responseWithin (given .args .limit) (tasksOf (given .args .table) (given .args .interval) (given .args .choice)) (given .args .place)
 both c =
     let one = c .before .before in
     let first = one .before .elsewhere .ensures .0 in
     let second = c .before .itself .ensures .0 in
-    ap₂ max first second ∙ on-time _ _ (λ e. one .if1 .left (first ∙ e)) (λ e. c .if2 .left (second ∙ e))
+    ap₂ max first second ∙ on-time _ _ _ (λ e. one .if1 .left (first ∙ e)) (λ e. c .if2 .left (second ∙ e))
 
 elsewhere-requires : tie.Need-elsewhere-requires
 elsewhere-requires c κs = search needs
 
 returns : tie.Need-returns
 returns c =
-    late-elsewhere _ _ (sym (c .before .elsewhere .ensures .0) ∙ c .if1 .taken)
+    late-elsewhere _ _ _ (sym (c .before .elsewhere .ensures .0) ∙ c .if1 .taken)
 
 itself-requires : tie.Need-itself-requires
 itself-requires c κs = search needs
@@ -32,7 +32,7 @@ itself-requires c κs = search needs
 returns-2 : tie.Need-returns-2
 returns-2 c =
     let one = c .before .before in
-    late-itself _ _ (λ e. one .if1 .left (one .before .elsewhere .ensures .0 ∙ e)) (sym (c .before .itself .ensures .0) ∙ c .if2 .taken)
+    late-itself _ _ _ (λ e. one .if1 .left (one .before .elsewhere .ensures .0 ∙ e)) (sym (c .before .itself .ensures .0) ∙ c .if2 .taken)
 
 cast-result : tie.Need-cast-result
 cast-result c =

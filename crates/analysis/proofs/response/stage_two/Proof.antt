@@ -1,5 +1,5 @@
 -- `analysis::response::stage_two` meets its contract. Assumes nothing.
-use mathlib.Core.Path.{ap, _∙_}
+use mathlib.Core.Path.{refl, ap, _∙_}
 use native.Mathlib.Omega.{arith}
 use Prim.Native.Nat.{ℕ, _+_}
 use Rattle.sheet.specs.Layout.{recordAt}
@@ -29,18 +29,15 @@ add-base c = search needs
 load-requires : tie.Need-load-requires
 load-requires c κs = search needs
 
-wide-requires-2 : tie.Need-wide-requires-2
-wide-requires-2 c κs = search needs
-
 climb-requires : tie.Need-climb-requires
 climb-requires c κs = search needs
 
 returns : tie.Need-returns
 unfolding recordAt
 returns c =
-    let given = c .before .before .before .before .before .before in (
+    let given = c .before .before .before .before .before in (
       c .climb .ensures .0
-          ∙ two-found (given .args .t1) (given .args .interval) (given .args .choice) (given .args .place) (given .args .first) (ap (λ (n : ℕ). given .args .first + n) (c .before .before .before .wide .ensures .0)) (c .before .before .before .before .largest-of-all .ensures) (c .before .before .load .ensures .0) (c .before .wide2 .ensures .0),
+          ∙ two-found (given .args .t1) (given .args .interval) (given .args .choice) (given .args .place) (given .args .first) (ap (λ (n : ℕ). given .args .first + n) (c .before .before .wide .ensures .0)) (c .before .before .before .largest-of-all .ensures) (c .before .load .ensures .0) refl,
       c .climb .ensures .1,
     )
 
@@ -54,6 +51,5 @@ stage-two-spec =
     wide-requires
     add-base
     load-requires
-    wide-requires-2
     climb-requires
     returns)

@@ -1,6 +1,5 @@
--- `report::text::with_outcome` meets its contract: a time has at most five digits, and late four letters. Assumes nothing.
+-- `report::text::with_outcome` meets its contract: a time has at most five digits. Assumes nothing.
 use native.Mathlib.Omega.{arith}
-use Rattle.report.specs.Words.{lateWord}
 use Rattle.report.specs.Decimal.{decimal}
 use Rattle.report.specs.Texts.{outcomeText}
 use Rattle.report.proofs.Decimal.{length-decimal}
@@ -21,11 +20,8 @@ with-number-requires c κs = omega (arith, length-decimal 4 (c .before .outcome 
 enum-told : tie.Need-enum-told
 enum-told c = search needs
 
-slice-aggregate-with-word : tie.Need-slice-aggregate-with-word
-slice-aggregate-with-word c = search needs
-
-with-word-requires : tie.Need-with-word-requires
-with-word-requires c κs = search needs
+with-late-requires : tie.Need-with-late-requires
+with-late-requires c κs = search needs
 
 returns : tie.Need-returns
 unfolding outcomeText
@@ -35,7 +31,7 @@ returns c =
 
 returns-2 : tie.Need-returns-2
 unfolding outcomeText
-returns-2 c = (rw (c .before .before .enum-told .given .1) (c .with-word .ensures), omega (arith, len-put _ lateWord (c .with-word .ensures)))
+returns-2 c = (rw (c .before .enum-told .given .1) (c .with-late .ensures .0), c .with-late .ensures .1)
 
 pub with-outcome-spec : {M : Type 1} → statement M
 with-outcome-spec =
@@ -45,7 +41,6 @@ with-outcome-spec =
     cast-with-number
     with-number-requires
     enum-told
-    slice-aggregate-with-word
-    with-word-requires
+    with-late-requires
     returns
     returns-2)

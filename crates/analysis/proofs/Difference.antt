@@ -1,0 +1,38 @@
+-- The difference of two numbers with its sign, and as the code computes it in 32 bits. Assumes nothing.
+use Prim.Native.Nat.{ℕ, zero, suc, _-_, _^_, _≤_, _<_}
+use mathlib.Core.Path.{_≡_, refl, sym, ap, ap₂, _∙_, subst}
+use native.Mathlib.Decide.{decLe}
+use native.Mathlib.Omega.{arith}
+use borrow.Author.Tests.{le-ltb, lt-ltb}
+use lib.IntN.{ℤ, pos, negsuc, _-ℤ_}
+use lib.Signed.{mag}
+use mir.Syntax.{w32}
+use mir.Val.{SFits, toZ, ofZ}
+use mir.Facts.{toZ-pos, toZ-ofZ}
+
+-- it is what is left where the second is no larger
+pub difference-left : (a b : ℕ) → b ≤ a → pos a -ℤ pos b ≡ pos (a - b)
+difference-left a zero h = ap pos (omega arith)
+difference-left a (suc b) h = simp (le-ltb a (suc b) h)
+
+-- and what is missing, with a minus sign, where it is larger
+pub difference-missing : (a b : ℕ) → a < b → pos a -ℤ pos b ≡ negsuc (b - suc a)
+difference-missing a zero h = absurd (omega arith)
+difference-missing a (suc b) h = simp (lt-ltb a (suc b) h)
+
+module _ (a b : ℕ) (low : a < 65536) (high : b < 65536) where
+  small : mag (pos a -ℤ pos b) < 2 ^ 31
+  small = go (decLe b a)
+    where
+      go : Dec (b ≤ a) → mag (pos a -ℤ pos b) < 2 ^ 31
+      go (yes h) = rw (difference-left a b h) (omega arith)
+      go (no h) = rw (difference-missing a b (omega arith)) (omega arith)
+
+  as-is : toZ w32 a -ℤ toZ w32 b ≡ pos a -ℤ pos b
+  as-is = ap₂ _-ℤ_ (toZ-pos w32 {n = a} (omega arith)) (toZ-pos w32 {n = b} (omega arith))
+
+  pub difference-fits : SFits w32 (toZ w32 a -ℤ toZ w32 b)
+  difference-fits = subst (SFits w32) (sym as-is) (record { sfits = small })
+
+  pub difference : toZ w32 (ofZ w32 (toZ w32 a -ℤ toZ w32 b)) ≡ pos a -ℤ pos b
+  difference = toZ-ofZ difference-fits ∙ as-is
