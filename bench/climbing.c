@@ -72,23 +72,20 @@ static uint32_t struck_elsewhere(const struct table *table, unsigned own)
     const struct record *record = &table->records[own];
     struct burden burden = {record->cost, own, own, largest_backup(table, own, own)};
 
-    return climb(table, &burden, 1, record->deadline);
+    return climb(table, &burden, record->cost, record->deadline);
 }
 
-/* The time of a task that is struck itself, or 0 where it or its first stage is late. */
+/* The time of a task that is struck itself, or 0 where it is late; the tasks between cost one job more than they come. */
 static uint32_t struck_itself(const struct table *table, unsigned own)
 {
     const struct record *record = &table->records[own];
     unsigned level = record->fault_priority;
     uint32_t backup = largest_backup(table, level, 0);
-    struct burden first = {(int64_t)record->backup - backup, level, own, backup};
-    uint32_t recovered = climb(table, &first, 1, record->deadline);
-    struct burden second = {0, own, own, largest_backup(table, own, 0)};
+    struct burden burden = {(int64_t)record->cost + record->backup - backup, level, own, backup};
 
-    if (recovered == 0)
-        return 0;
-    second.fixed = (int64_t)recovered + record->cost - due(table, &second, recovered);
-    return climb(table, &second, recovered, record->deadline);
+    for (unsigned priority = level + 1; priority < own; priority++)
+        burden.fixed += table->records[priority].cost;
+    return climb(table, &burden, (uint32_t)record->cost + record->backup, record->deadline);
 }
 
 /* The response time of a task, or 0 where it is late. */

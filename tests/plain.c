@@ -51,28 +51,27 @@ static uint64_t largest_backup(const struct table *table, uint64_t level, size_t
     return largest;
 }
 
-/* The cost, within a length, of each record but one with a priority above a level. */
-static uint64_t cost_above(const struct table *table, uint64_t level, size_t left_out, uint64_t length)
+/* The cost, within a length, of each record with a priority above a level. */
+static uint64_t cost_above(const struct table *table, uint64_t level, uint64_t length)
 {
     uint64_t sum = 0;
     for (size_t place = 0; place < table->count; place++) {
         const struct record *other = &table->records[place];
-        if (place != left_out && other->priority > level) {
+        if (other->priority > level) {
             sum += up(length, other->period) * other->cost;
         }
     }
     return sum;
 }
 
-/* What a length has to be at least, of a record and of the length of a stage before. */
-typedef uint64_t needed_length(const struct table *table, size_t place, uint64_t before, uint64_t length);
+/* What a length has to be at least, of a record. */
+typedef uint64_t needed_length(const struct table *table, size_t place, uint64_t length);
 
-/* The least length from the one before on that is at least what is needed, or no time within the limit. */
-static uint64_t least_length(needed_length *needed, const struct table *table, size_t place, uint64_t before,
-                             uint64_t limit)
+/* The least length that is at least what is needed, or no time within the limit. */
+static uint64_t least_length(needed_length *needed, const struct table *table, size_t place, uint64_t limit)
 {
-    for (uint64_t length = before; length <= limit; length++) {
-        if (length >= needed(table, place, before, length)) {
+    for (uint64_t length = 1; length <= limit; length++) {
+        if (length >= needed(table, place, length)) {
             return length;
         }
     }
@@ -80,48 +79,35 @@ static uint64_t least_length(needed_length *needed, const struct table *table, s
 }
 
 /* What a record needs when faults hit other tasks only. */
-static uint64_t struck_elsewhere(const struct table *table, size_t place, uint64_t before, uint64_t length)
+static uint64_t struck_elsewhere(const struct table *table, size_t place, uint64_t length)
 {
     const struct record *own = &table->records[place];
-    (void)before;
-    return own->cost + cost_above(table, own->priority, NOBODY, length) +
+    return own->cost + cost_above(table, own->priority, length) +
            up(length, table->interval) * largest_backup(table, own->priority, place);
 }
 
-/* What stage one of a record struck itself needs, from the fault on. */
-static uint64_t stage_one(const struct table *table, size_t place, uint64_t before, uint64_t length)
+/* What a record needs when it is struck itself. */
+static uint64_t struck_itself(const struct table *table, size_t place, uint64_t length)
 {
     const struct record *own = &table->records[place];
-    (void)before;
-    return own->backup + cost_above(table, own->fault_priority, place, length) +
-           (up(length, table->interval) - 1) * largest_backup(table, own->fault_priority, NOBODY);
-}
-
-/* What stage two of a record struck itself needs, after stage one. */
-static uint64_t stage_two(const struct table *table, size_t place, uint64_t before, uint64_t length)
-{
-    const struct record *own = &table->records[place];
-    uint64_t needed = before + own->cost;
-    for (size_t higher = 0; higher < table->count; higher++) {
-        const struct record *other = &table->records[higher];
-        if (other->priority > own->priority) {
-            needed += (up(length, other->period) - up(before, other->period)) * other->cost;
+    uint64_t needed = own->cost + own->backup;
+    for (size_t other = 0; other < table->count; other++) {
+        const struct record *task = &table->records[other];
+        if (task->priority > own->priority) {
+            needed += up(length, task->period) * task->cost;
+        } else if (task->priority > own->fault_priority && task->priority < own->priority) {
+            needed += (1 + up(length, task->period)) * task->cost;
         }
     }
-    return needed + (up(length, table->interval) - up(before, table->interval)) *
-                        largest_backup(table, own->priority, NOBODY);
+    return needed + (up(length, table->interval) - 1) * largest_backup(table, own->fault_priority, NOBODY);
 }
 
 /* The response time of a record, or no time within the limit. */
 static uint64_t response_time(const struct table *table, size_t place, uint64_t limit)
 {
-    uint64_t elsewhere = least_length(struck_elsewhere, table, place, 1, limit);
-    uint64_t first = least_length(stage_one, table, place, 1, limit);
-    if (elsewhere == NO_TIME || first == NO_TIME) {
-        return NO_TIME;
-    }
-    uint64_t itself = least_length(stage_two, table, place, first, limit);
-    if (itself == NO_TIME) {
+    uint64_t elsewhere = least_length(struck_elsewhere, table, place, limit);
+    uint64_t itself = least_length(struck_itself, table, place, limit);
+    if (elsewhere == NO_TIME || itself == NO_TIME) {
         return NO_TIME;
     }
     return elsewhere > itself ? elsewhere : itself;

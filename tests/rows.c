@@ -136,7 +136,7 @@ static const struct kind {
     void (*answer)(struct row *row);
 } KINDS[] = {
     {"ask-01-replay.txt", 2, answer_replay},
-    {"ask-02-slack.txt", 1, answer_slack},
+    {"ask-03-second-job.txt", 1, answer_slack},
 };
 
 /* The kind of a file. */

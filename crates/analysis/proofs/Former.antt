@@ -13,7 +13,7 @@ use Rattle.analysis.specs.Tasks.{Tasks, tasksOf}
 use Rattle.analysis.specs.Response.{responseWithin, responseTime, late, passes}
 use Rattle.analysis.proofs.Limits.{response-cut, late-cut, cut-on-time}
 
--- document 01: "A task is late if either time, or L1, has no value within D."
+-- document 01: "A task is late if either time [..] has no value within D."
 unfoldable pub formerTime : Tasks → ℕ → ℕ
 formerTime s i = responseWithin (s .at i .deadline) s i
 

@@ -7,8 +7,10 @@ pub mod Found
 pub mod Verdicts
 pub mod Limits
 pub mod Difference
+pub mod Easier
 pub mod Slacks
 pub mod Former
+pub mod Stages
 pub mod Choice
 pub mod EachTick
 pub mod Demands

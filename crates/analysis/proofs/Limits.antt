@@ -7,11 +7,10 @@ use native.Mathlib.Omega.{arith}
 use borrow.Author.Tests.{eq-eqb, ne-eqb, le-leb, lt-leb, le-ltb, lt-ltb}
 use lib.Dec.{eqb, leb, ltb}
 use Rattle.analysis.specs.Tasks.{Tasks}
-use Rattle.analysis.specs.Equations.{struckElsewhere, stageOne, stageTwo}
+use Rattle.analysis.specs.Equations.{struckElsewhere, struckItself}
 use Rattle.analysis.specs.Search.{leastWithin}
-use Rattle.analysis.specs.Response.{timeElsewhere, lengthOne, timeItself, responseWithin, isLate}
+use Rattle.analysis.specs.Response.{timeElsewhere, timeItself, responseWithin, isLate}
 use Rattle.analysis.proofs.Climbing.{Least, least-says, least-found, least-none}
-use Rattle.analysis.proofs.Verdicts.{itself-none, itself-some, late-elsewhere, late-itself, on-time}
 
 -- a value as far as a search to the limit goes: itself within the limit, else none
 unfoldable pub cut : ℕ → ℕ → ℕ
@@ -62,45 +61,14 @@ least-cut asked start limit longer less = go (least-says asked start longer)
         side (yes within) = least-found asked start limit L low within short fits ∙ sym (cut-kept limit L within)
         side (no past) = least-none asked start limit L (omega arith) short ∙ sym (cut-past limit L (omega arith))
 
--- a value that is there is no earlier than the start
-least-low : (asked : ℕ → ℕ) (start limit : ℕ) → (leastWithin asked start limit ≡ 0 → ⊥) → start ≤ leastWithin asked start limit
-least-low asked start limit some = go (least-says asked start limit) refl
-  where
-    go : {r : ℕ} → Least asked start limit r → r ≡ leastWithin asked start limit → start ≤ r
-    go (Least.none short) e = absurd (some (sym e))
-    go (Least.least low high fits short) e = low
-
 module _ (limit longer : ℕ) (less : limit ≤ longer) (s : Tasks) (i : ℕ) where
   elsewhere-cut : timeElsewhere limit s i ≡ cut limit (timeElsewhere longer s i)
   unfolding timeElsewhere
   elsewhere-cut = least-cut (struckElsewhere s i) 1 limit longer less
 
-  one-cut : lengthOne limit s i ≡ cut limit (lengthOne longer s i)
-  unfolding lengthOne
-  one-cut = least-cut (stageOne s i) 1 limit longer less
-
   itself-cut : timeItself limit s i ≡ cut limit (timeItself longer s i)
-  itself-cut = go (ℕ-discrete (lengthOne longer s i) 0) (decLe (lengthOne longer s i) limit)
-    where
-      past-itself : (lengthOne longer s i ≡ 0 → ⊥) → limit < lengthOne longer s i → Dec (timeItself longer s i ≡ 0) → cut limit (timeItself longer s i) ≡ 0
-      past-itself some past (yes none) = ap (cut limit) none ∙ cut-none limit
-      past-itself some past (no there) =
-          let same = itself-some longer s i some in
-          let low = least-low (stageTwo s i (lengthOne longer s i)) (lengthOne longer s i) longer (λ e. there (sym same ∙ e)) in
-          cut-past limit (timeItself longer s i) (omega arith)
-
-      go : Dec (lengthOne longer s i ≡ 0) → Dec (lengthOne longer s i ≤ limit) → timeItself limit s i ≡ cut limit (timeItself longer s i)
-      go (yes none) side =
-          sym (itself-none limit s i (one-cut ∙ ap (cut limit) none ∙ cut-none limit)) ∙ sym (cut-none limit) ∙ ap (cut limit) (itself-none longer s i none)
-      go (no some) (yes within) =
-          let one = one-cut ∙ cut-kept limit (lengthOne longer s i) within in
-          sym (itself-some limit s i (λ e. some (sym one ∙ e)))
-          ∙ ap (λ (n : ℕ). leastWithin (stageTwo s i n) n limit) one
-          ∙ least-cut (stageTwo s i (lengthOne longer s i)) (lengthOne longer s i) limit longer less
-          ∙ ap (cut limit) (itself-some longer s i some)
-      go (no some) (no past) =
-          sym (itself-none limit s i (one-cut ∙ cut-past limit (lengthOne longer s i) (omega arith)))
-          ∙ sym (past-itself some (omega arith) (ℕ-discrete (timeItself longer s i) 0))
+  unfolding timeItself
+  itself-cut = least-cut (struckItself s i) 1 limit longer less
 
   pub response-cut : responseWithin limit s i ≡ cut limit (responseWithin longer s i)
   unfolding responseWithin

@@ -33,3 +33,7 @@ module _ (a b : ℕ) (some : 1 ≤ b) where
 -- a product of two numbers of 16 bits
 pub wide-product : {a b : ℕ} → a < 65536 → b < 65536 → a * b ≤ 4294836225
 wide-product ha hb = mul-le-mul (le-of-suc-le-suc ha) (le-of-suc-le-suc hb)
+
+-- and with one more of the first
+pub wider-product : {a b : ℕ} → a < 65536 → b < 65536 → (1 + a) * b ≤ 4294901760
+wider-product {a} ha hb = let more : 1 + a ≤ 65536 = omega arith in mul-le-mul more (le-of-suc-le-suc hb)

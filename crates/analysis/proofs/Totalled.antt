@@ -1,5 +1,5 @@
 -- Sums and largest values over the places below a count, for every count. Assumes nothing.
-use Prim.Native.Nat.{ℕ, zero, suc, _+_, _-_, _≤_, _<_, max}
+use Prim.Native.Nat.{ℕ, zero, suc, _+_, _≤_, _<_, max}
 use mathlib.Core.Path.{_≡_, refl, ap, ap₂}
 use mathlib.Core.Logic.{⊎-elim}
 use native.Mathlib.Nat.{le-refl, add-le-add, eq-or-lt-of-le, le-of-suc-le-suc, not-suc-le-zero}
@@ -32,14 +32,11 @@ module _ {f g : ℕ → ℕ} where
   most-agree zero same = refl
   most-agree (suc n) same = ap₂ max (most-agree n (λ k h. same k (omega arith))) (same n (omega arith))
 
-  -- the sum of the differences is the difference of the sums
-  pub sum-less : (n : ℕ) → ((k : ℕ) → k < n → g k ≤ f k) → sumBelow (λ k. f k - g k) n ≡ sumBelow f n - sumBelow g n
-  unfolding sumBelow
-  sum-less zero each = refl
-  sum-less (suc n) each =
-      let before = sum-less n (λ k h. each k (omega arith)) in
-      let more = sum-rises {f = g} {g = f} n (λ k h. each k (omega arith)) in
-      omega (arith, before, more, each n (omega arith))
+-- the sum of the sums
+pub sum-plus : (f g : ℕ → ℕ) (n : ℕ) → sumBelow (λ k. f k + g k) n ≡ sumBelow f n + sumBelow g n
+unfolding sumBelow
+sum-plus f g zero = refl
+sum-plus f g (suc n) = omega (arith, sum-plus f g n)
 
 -- what one place has is within the sum, and within the largest
 pub sum-part : (f : ℕ → ℕ) (n k : ℕ) → k < n → f k ≤ sumBelow f n

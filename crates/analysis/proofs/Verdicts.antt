@@ -9,19 +9,9 @@ use native.Mathlib.Numerals.{add-one}
 use borrow.Author.Tests.{eq-eqb, ne-eqb}
 use Rattle.sheet.specs.Places.{someBelow}
 use Rattle.analysis.specs.Tasks.{Tasks}
-use Rattle.analysis.specs.Equations.{stageTwo}
-use Rattle.analysis.specs.Search.{leastWithin}
-use Rattle.analysis.specs.Response.{timeElsewhere, lengthOne, timeItself, responseWithin}
+use Rattle.analysis.specs.Response.{timeElsewhere, timeItself, responseWithin}
 
 module _ (limit : ℕ) (s : Tasks) (i : ℕ) where
-  pub itself-none : lengthOne limit s i ≡ 0 → 0 ≡ timeItself limit s i
-  unfolding timeItself
-  itself-none e = simp (eq-eqb (lengthOne limit s i) 0 e)
-
-  pub itself-some : (lengthOne limit s i ≡ 0 → ⊥) → leastWithin (stageTwo s i (lengthOne limit s i)) (lengthOne limit s i) limit ≡ timeItself limit s i
-  unfolding timeItself
-  itself-some e = simp (ne-eqb (lengthOne limit s i) 0 e)
-
   pub late-elsewhere : timeElsewhere limit s i ≡ 0 → 0 ≡ responseWithin limit s i
   unfolding responseWithin
   late-elsewhere e = simp (eq-eqb (timeElsewhere limit s i) 0 e)

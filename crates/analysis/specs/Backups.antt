@@ -1,4 +1,4 @@
--- The largest backup at or above a level: M, N and K of document 01.
+-- The largest backup at or above a level: M and N of document 01.
 use Prim.Native.Nat.{ℕ}
 use mathlib.Core.Bool.{Bool, true, cond, not, _&&_}
 use lib.Dec.{eqb, leb}
@@ -29,7 +29,3 @@ backupElsewhere s i = largestBackup s (others i) (s .at i .priority)
 -- "N is the largest B among all records, i included, with q ≥ q of i."
 unfoldable pub backupFromFault : Tasks → ℕ → ℕ
 backupFromFault s i = largestBackup s everyone (s .fault i)
-
--- "K is the largest B among all records, i included, with q ≥ p of i, or 0."
-unfoldable pub backupAfter : Tasks → ℕ → ℕ
-backupAfter s i = largestBackup s everyone (s .at i .priority)

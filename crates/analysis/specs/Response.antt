@@ -4,20 +4,16 @@ use mathlib.Core.Bool.{Bool, cond, not, _||_}
 use lib.Dec.{eqb, ltb}
 use Rattle.sheet.specs.Places.{someBelow}
 use Rattle.analysis.specs.Tasks.{Tasks}
-use Rattle.analysis.specs.Equations.{struckElsewhere, stageOne, stageTwo}
+use Rattle.analysis.specs.Equations.{struckElsewhere, struckItself}
 use Rattle.analysis.specs.Search.{leastWithin}
 
 -- "Struck elsewhere": "the least L ≥ 1 such that L is at least" its equation
 unfoldable pub timeElsewhere : ℕ → Tasks → ℕ → ℕ
 timeElsewhere limit s i = leastWithin (struckElsewhere s i) 1 limit
 
--- "L1 is the least number ≥ 1 that is at least" stage one's equation
-unfoldable pub lengthOne : ℕ → Tasks → ℕ → ℕ
-lengthOne limit s i = leastWithin (stageOne s i) 1 limit
-
--- "Struck itself": "the least L ≥ L1 such that L is at least" stage two's equation; none where L1 has no value
+-- "Struck itself": "the least L that is at least" its equation
 unfoldable pub timeItself : ℕ → Tasks → ℕ → ℕ
-timeItself limit s i = cond (eqb (lengthOne limit s i) 0) 0 (leastWithin (stageTwo s i (lengthOne limit s i)) (lengthOne limit s i) limit)
+timeItself limit s i = leastWithin (struckItself s i) 1 limit
 
 -- "The response time is the larger of the two times."
 unfoldable pub responseWithin : ℕ → Tasks → ℕ → ℕ

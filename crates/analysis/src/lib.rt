@@ -56,12 +56,12 @@ pub enum Interval {
     Nothing,
 }
 
-// One of the three equations as the code computes it: a base, the level above which records run, the record left out,
-// the backup paid for each fault, and what is already paid.
+// One of the two equations as the code computes it: a base, the level above which records run, the low level above which
+// those below the level run once more, the backup paid for each fault, and what is already paid.
 pub struct Demand {
     pub base: u64,
     pub level: u8,
-    pub omitted: usize,
+    pub low: u8,
     pub backup: u16,
     pub paid: u64,
 }

@@ -1,4 +1,4 @@
-// Response times: struck elsewhere, struck itself in two stages, the larger of both; and what is asked of all records together.
+// Response times: struck elsewhere, struck itself, the larger of both; and what is asked of all records together.
 // Fault priorities come from a choice beside the table. Each time is searched for up to a limit: 65,535 for a figure, the deadline for the verdict.
 ghost use mathlib.Core.Path.{_≡_};
 ghost use Prim.Native.Nat.{_≤_, _<_};
@@ -6,9 +6,7 @@ ghost use lib.ListN.{replicate};
 ghost use Rattle.sheet.specs.Rules.{tableRefusal};
 ghost use Rattle.sheet.specs.Places.{filledBelow};
 ghost use Rattle.analysis.specs.Tasks.{tasksOf, ownChoice};
-ghost use Rattle.analysis.specs.Response.{timeElsewhere, lengthOne, timeItself, responseWithin, late, passes};
-ghost use Rattle.analysis.specs.Equations.{stageTwo};
-ghost use Rattle.analysis.specs.Search.{leastWithin};
+ghost use Rattle.analysis.specs.Response.{timeElsewhere, timeItself, responseWithin, late, passes};
 ghost use Rattle.analysis.specs.Answers.{outcomeOf, slackOf, entryOf, noEntry, ownTasks, leastInterval};
 use crate::Demand;
 use crate::Entry;
@@ -22,83 +20,40 @@ use sheet::Table;
 // The longest response time that is searched for.
 const LONGEST: u16 = 65535;
 
-// The time of the record at a place when faults strike other tasks only, or 0.
+// The time of the record at a place when faults strike other tasks only, or 0. No length below the base is enough, so the climb starts there.
 fn elsewhere(table: Table, interval: u16, choice: [u8; 8], place: usize, limit: u64) -> u64
     requires { ⌜ (tableRefusal table ≡ 0) × (1 ≤ interval) × (place < table .count) × (limit < 65536) ⌝ }
     ensures { λ r. ⌜ (r ≡ timeElsewhere limit (tasksOf table interval choice) place) × (r < 65536) ⌝ }
 {
     let task = table.records[place];
+    let base = workload::wide(task.cost);
     let sought = Demand {
-        base: workload::wide(task.cost),
+        base,
         level: task.priority,
-        omitted: place,
+        low: task.priority,
         backup: workload::largest(table, choice, place, task.priority),
         paid: 0,
-    };
-    search::climb(table, interval, sought, 1, limit)
-}
-
-// L1, the length of stage one, or 0.
-fn length_one(table: Table, interval: u16, choice: [u8; 8], place: usize, limit: u64) -> u64
-    requires { ⌜ (tableRefusal table ≡ 0) × (1 ≤ interval) × (place < table .count) × (limit < 65536) ⌝ }
-    ensures { λ r. ⌜ (r ≡ lengthOne limit (tasksOf table interval choice) place) × (r < 65536) ⌝ }
-{
-    let task = table.records[place];
-    let fault = choice[place];
-    let backup = workload::largest_of_all(table, choice, place, fault);
-    let sought = Demand {
-        base: workload::wide(task.backup),
-        level: fault,
-        omitted: place,
-        backup,
-        paid: workload::wide(backup),
-    };
-    search::climb(table, interval, sought, 1, limit)
-}
-
-// The time of stage two, from the length of stage one on, or 0. No length below the base is enough, so the climb starts there.
-fn stage_two(
-    table: Table,
-    interval: u16,
-    choice: [u8; 8],
-    place: usize,
-    first: u64,
-    limit: u64,
-) -> u64
-    requires { ⌜ (tableRefusal table ≡ 0) × (1 ≤ interval) × (place < table .count) × (1 ≤ first) × (first < 65536) × (limit < 65536) ⌝ }
-    ensures { λ r. ⌜ (r ≡ leastWithin (stageTwo (tasksOf table interval choice) place first) first limit) × (r < 65536) ⌝ }
-{
-    let task = table.records[place];
-    let level = task.priority;
-    let backup = workload::largest_of_all(table, choice, place, level);
-    let base = first + workload::wide(task.cost);
-    let unpaid = Demand {
-        base,
-        level,
-        omitted: place,
-        backup,
-        paid: 0,
-    };
-    let sought = Demand {
-        base,
-        level,
-        omitted: place,
-        backup,
-        paid: workload::load(table, interval, unpaid, first),
     };
     search::climb(table, interval, sought, base, limit)
 }
 
-// The time of the record at a place when the first fault strikes it, or 0.
+// The time of the record at a place when the first fault strikes it, or 0, likewise.
 fn itself(table: Table, interval: u16, choice: [u8; 8], place: usize, limit: u64) -> u64
     requires { ⌜ (tableRefusal table ≡ 0) × (1 ≤ interval) × (place < table .count) × (limit < 65536) ⌝ }
     ensures { λ r. ⌜ (r ≡ timeItself limit (tasksOf table interval choice) place) × (r < 65536) ⌝ }
 {
-    let first = length_one(table, interval, choice, place, limit);
-    if first == 0 {
-        return 0;
-    }
-    stage_two(table, interval, choice, place, first, limit)
+    let task = table.records[place];
+    let fault = choice[place];
+    let backup = workload::largest_of_all(table, choice, place, fault);
+    let base = workload::wide(task.cost) + workload::wide(task.backup);
+    let sought = Demand {
+        base,
+        level: task.priority,
+        low: fault,
+        backup,
+        paid: workload::wide(backup),
+    };
+    search::climb(table, interval, sought, base, limit)
 }
 
 // The response time of the record at a place, or 0 where it is late.

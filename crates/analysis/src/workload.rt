@@ -1,4 +1,4 @@
-// Rounding up, the largest backup at or above a level, and the load of a length: what the three equations are made of.
+// Rounding up, the largest backup at or above a level, and the load of a length: what the two equations are made of.
 ghost use mathlib.Core.Path.{_≡_};
 ghost use Prim.Native.Nat.{_≤_, _<_, max};
 ghost use mathlib.Core.List.{[]};
@@ -82,33 +82,36 @@ pub fn largest_of_all(table: Table, choice: [u8; 8], place: usize, level: u8) ->
     )
 }
 
-// The time that a record runs in a length, if it is meant and its priority is above the level, else 0.
-fn run_of(task: Record, is_meant: bool, level: u8, length: u32) -> u32
+// The time that a record runs in so many periods: once for each above the level, and once more below it and above the low level.
+fn run_of(task: Record, level: u8, low: u8, length: u32) -> u32
     requires { ⌜ (length < 65536) × (1 ≤ task .period) ⌝ }
-    ensures { λ r. ⌜ (r ≡ runOf task «is_meant» level length) × (r ≤ 4294836225) ⌝ }
+    ensures { λ r. ⌜ (r ≡ runOf task level low length) × (r ≤ 4294901760) ⌝ }
 {
-    if is_meant {
-        if level < task.priority {
-            return up(length, half_wide(task.period)) * half_wide(task.cost);
+    if level < task.priority {
+        return up(length, half_wide(task.period)) * half_wide(task.cost);
+    }
+    if low < task.priority {
+        if task.priority < level {
+            return (1 + up(length, half_wide(task.period))) * half_wide(task.cost);
         }
     }
     0
 }
 
-// What the records above the demand's level, and the faults, take of a length.
+// What the records above the demand's levels, and the faults, take of a length.
 pub fn load(table: Table, interval: u16, demand: Demand, length: u64) -> u64
     requires { ⌜ (tableRefusal table ≡ 0) × (1 ≤ interval) × (length < 65536) ⌝ }
-    ensures { λ r. ⌜ (r ≡ loadOf (tasksOf table interval []) demand length) × (r ≤ 38653526025) ⌝ }
+    ensures { λ r. ⌜ (r ≡ loadOf (tasksOf table interval []) demand length) × (r ≤ 38654050305) ⌝ }
 {
     let count = table.count as usize;
-    let omitted = demand.omitted;
     let level = demand.level;
+    let low = demand.low;
     let span = length as u32;
     let faults = up(span, half_wide(interval)) * half_wide(demand.backup);
     let mut total = faults as u64;
     let mut place: usize = 0;
     while place < count {
-        total += run_of(table.records[place], place != omitted, level, span) as u64;
+        total += run_of(table.records[place], level, low, span) as u64;
         place += 1;
     }
     total

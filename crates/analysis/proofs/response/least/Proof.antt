@@ -10,7 +10,6 @@ use Rattle.analysis.specs.Search.{firstFrom}
 use Rattle.analysis.specs.Response.{passes}
 use Rattle.analysis.specs.Answers.{leastInterval}
 use Rattle.analysis.proofs.Climbing.{Fails, fails-more, first-found, first-none}
-use Rattle.analysis.proofs.Choice.{own-within}
 use Rattle.analysis.proofs.Demands.{fails-at-1}
 use borrow.Author.Needs.{needs}
 use Rattle.analysis.proofs.response.least.Statement.{statement}
@@ -32,7 +31,7 @@ own-choice-requires c κs = search needs
 loop-holds : tie.Need-loop-holds Inv-loop μ-loop
 loop-holds c =
     let given = c .before .before in
-    let first = fails-at-1 (given .args .table) (given .pre) (ownChoice (given .args .table .records)) (own-within (given .args .table) (given .pre)) in
+    let first = fails-at-1 (given .args .table) (given .pre) (ownChoice (given .args .table .records)) in
     let begun : passing (given .args .table) (c .own-choice .result) 1 ≡ false = ap (λ (choice : List ℕ). passing (given .args .table) choice 1) (c .own-choice .ensures) ∙ first in (
       search needs,
       search needs,

@@ -9,7 +9,6 @@ use Rattle.sheet.specs.Layout.{recordAt}
 use Rattle.sheet.proofs.Cases.{good-table, good-at}
 use Rattle.analysis.specs.Rounding.{up}
 use Rattle.analysis.specs.Totals.{sumBelow}
-use Rattle.analysis.specs.Backups.{others}
 use Rattle.analysis.specs.Demand.{runOf, loadOf}
 use Rattle.analysis.proofs.Rounding.{wide-product}
 use Rattle.analysis.proofs.Totalled.{sum-more}
@@ -19,13 +18,13 @@ use Rattle.analysis.proofs.workload.load.Tie as tie
 
 -- what each place brings
 abbrev runs : List Record → ℕ → ℕ → ℕ → ℕ → ℕ
-runs records omitted level length k = runOf (recordAt records k) (others omitted k) level length
+runs records level low length k = runOf (recordAt records k) level low length
 
 abbrev Inv-loop : tie.InvT-loop
-Inv-loop interval length table count omitted level span faults total₀ place₀ total place = (place ≤ count) × (total ≡ sumBelow (runs (table .records) omitted level length) place + total₀) × (total ≤ 4294836225 + place * 4294836225)
+Inv-loop interval length table count level low span faults total₀ place₀ total place = (place ≤ count) × (total ≡ sumBelow (runs (table .records) level low length) place + total₀) × (total ≤ 4294836225 + place * 4294901760)
 
 abbrev μ-loop : tie.MeasureT-loop
-μ-loop interval length table count omitted level span faults total₀ place₀ total place = count - place
+μ-loop interval length table count level low span faults total₀ place₀ total place = count - place
 
 cast-count : tie.Need-cast-count Inv-loop μ-loop
 cast-count c = search needs
@@ -90,11 +89,11 @@ loop-less : tie.Need-loop-less Inv-loop μ-loop
 loop-less c = search needs
 
 loop-again : tie.Need-loop-again Inv-loop μ-loop
-unfolding recordAt others
+unfolding recordAt
 loop-again c =
     let at = c .before .before .before .loop in
     let given = c .before .before .before .before .before .before .before in
-    let each = runs (given .args .t1 .records) (given .args .demand .omitted) (given .args .demand .level) (given .args .length) in
+    let each = runs (given .args .t1 .records) (given .args .demand .level) (given .args .demand .low) (given .args .length) in
     let more = sum-more each (at .place) in
     let grown : at .total + c .run-of .result ≡ (sumBelow each (at .place) + c .before .before .before .before .before .up .result * c .before .before .before .before .half-wide2 .result) + each (at .place) = ap₂ _+_ (at .inv .1) (c .run-of .ensures .0) in
     (search needs, omega arith, omega arith)
@@ -104,7 +103,7 @@ unfolding loadOf
 returns c =
     let given = c .before .before .before .before .before in
     let few = good-table (given .args .t1) (given .pre .0) .count .1 in
-    let each = runs (given .args .t1 .records) (given .args .demand .omitted) (given .args .demand .level) (given .args .length) in
+    let each = runs (given .args .t1 .records) (given .args .demand .level) (given .args .demand .low) (given .args .length) in
     let all : c .before .loop .place ≡ given .args .t1 .count = omega arith in
     let faults = c .before .before .before in (
       c .before .loop .inv .1

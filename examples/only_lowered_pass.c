@@ -1,22 +1,23 @@
 /*
- * Links the library: writes Sheet A from its numbers, and prints each task's response and every passing choice.
+ * Links the library: writes the sheet of the same name from its numbers, and prints each task's response and every passing choice.
  * From the repository's root, on x86-64:
  *
  *     rt staticlib fidhaqooban
- *     gcc -Iinclude -o sheet_a examples/sheet_a.c target/staticlib/libfidhaqooban.a && ./sheet_a
+ *     gcc -Iinclude -o example examples/only_lowered_pass.c target/staticlib/libfidhaqooban.a && ./example
  */
 #include "fidhaqooban.h"
 
 #include <inttypes.h>
 #include <stdio.h>
 
-enum { COUNT = 3, INTERVAL = 9 };
+enum { COUNT = 4, INTERVAL = 300 };
 
 /* cost, backup, deadline, period, priority, fault priority of each task */
 static const uint16_t numbers[COUNT * FQ_RECORD_NUMBERS] = {
-    4, 4, 12, 12, 3, 3,
-    3, 3, 20, 20, 2, 2,
-    1, 1, 35, 35, 1, 1,
+    5, 10, 50, 50, 4, 4,
+    15, 40, 150, 150, 3, 3,
+    35, 25, 95, 250, 2, 2,
+    50, 75, 310, 500, 1, 1,
 };
 
 /* Prints that a task is late, and by how much where there is a figure. */
