@@ -25,12 +25,16 @@ fn half_wide(x: u16) -> u32
     x as u32
 }
 
-// a divided by b, rounded up.
+// a divided by b, rounded up: the quotient, and one more if a remainder is left.
 fn up(a: u32, b: u32) -> u32
     requires { ⌜ (a < 65536) × (1 ≤ b) × (b < 65536) ⌝ }
     ensures { λ r. ⌜ (r ≡ up a b) × (r < 65536) ⌝ }
 {
-    (a + (b - 1)) / b
+    let quotient = a / b;
+    if a % b == 0 {
+        return quotient;
+    }
+    quotient + 1
 }
 
 // A record's backup if it is meant and runs at or above the level, else 0.
