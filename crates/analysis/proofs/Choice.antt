@@ -1,26 +1,27 @@
 -- A choice place by place: the levels of a table's records, which entries are allowed, and what an allowed choice is in document 01's words. Assumes nothing.
 use Prim.Native.Nat.{ℕ, zero, suc, _+_, _≤_, _<_}
 use mathlib.Core.Path.{_≡_, refl, sym, ap, ap₂, _∙_, subst}
-use mathlib.Core.Bool.{Bool, true, false, not, _&&_, false≢true}
+use mathlib.Core.Bool.{Bool, true, false, not, cond, _&&_, false≢true}
 use mathlib.Core.List.{List, [], _∷_}
 use mathlib.Core.Logic.{_↔_}
 use native.Mathlib.Nat.{not-suc-le-zero, suc-ne-zero, suc-inj}
 use native.Mathlib.Numerals.{add-one}
-use native.Mathlib.Decide.{decLt}
+use native.Mathlib.Decide.{ℕ-discrete, decLt}
 use native.Mathlib.Omega.{arith}
-use borrow.Author.Tests.{lt-ltb, le-ltb, le-leb, lt-leb, eq-eqb, eqb-true, not-true}
-use lib.Dec.{ltb, leb, eqb·suc-zero}
+use borrow.Author.Tests.{lt-ltb, le-ltb, le-leb, lt-leb, eq-eqb, ne-eqb, eqb-true, not-true}
+use lib.Dec.{ltb, leb, eqb, eqb·suc-zero}
 use lib.ListN.{length, getD, drop, replicate}
 use lib.Seq.{drop-cons, getD-set-other}
 use Rattle.sheet.specs.declared.Table.{Table}
-use Rattle.sheet.specs.Places.{filledBelow}
+use Rattle.sheet.specs.Places.{orElse, filledBelow}
 use Rattle.sheet.specs.Layout.{recordAt}
 use Rattle.sheet.specs.Rules.{outside, tableRefusal}
 use Rattle.sheet.proofs.Turns.{length-filled}
 use Rattle.sheet.proofs.Agree.{filled-at}
 use Rattle.sheet.proofs.Cases.{within, outside-within, good-table, good-at}
-use Rattle.analysis.specs.Tasks.{ownChoice}
+use Rattle.analysis.specs.Tasks.{faultAt, ownChoice}
 use Rattle.analysis.specs.Allowed.{levelsOf, isAllowed, allAllowed}
+use Rattle.analysis.specs.Answers.{choiceRefusal}
 
 -- two true tests are true together
 pub and-true : (a b : Bool) → a ≡ true → b ≡ true → (a && b) ≡ true
@@ -146,11 +147,41 @@ allowed-exactly t good choice eight = (
     at place w (yes below) = subst (λ (p : ℕ). isAllowed p (getD choice place 0) ≡ true) (sym (level place below)) (allowed-for _ _ (some place below) .1 (w .each place below))
     at place w (no over) = subst (λ (p : ℕ). isAllowed p (getD choice place 0) ≡ true) (sym (level-past t place (omega arith))) (allowed-past _ .1 (w .past place (omega arith)))
 
--- the sheet's own fault priorities are within
-pub own-within : (t : Table) → tableRefusal t ≡ 0 → Within t (ownChoice (t .records))
-unfolding ownChoice
-own-within t good place below =
-    let known = good-table t good in
-    subst (λ (q : ℕ). (1 ≤ q) × (q ≤ recordAt (t .records) place .priority))
-    (sym (filled-at (λ k. recordAt (t .records) k .«fault_priority») 8 (replicate 8 0) 0 (omega arith) place (omega (arith, known .count .1))))
-    (good-at (t .count) (recordAt (t .records)) (known .records) place below .fault)
+-- the table's own fault priorities
+module _ (t : Table) where
+  -- each stands at its place
+  pub own-at : (place : ℕ) → place < t .count → t .count ≤ 8 → getD (ownChoice t) place 0 ≡ recordAt (t .records) place .«fault_priority»
+  unfolding ownChoice faultAt
+  own-at place below few = filled-at (faultAt t) 8 (replicate 8 0) 0 (omega arith) place (omega arith) ∙ simp (lt-ltb place (t .count) below)
+
+  -- past the count they are 0
+  pub own-past : (place : ℕ) → t .count ≤ place → getD (ownChoice t) place 0 ≡ 0
+  unfolding ownChoice faultAt
+  own-past place past = go (decLt place 8)
+    where
+      go : Dec (place < 8) → getD (filledBelow (faultAt t) 8 (replicate 8 0)) place 0 ≡ 0
+      go (yes below) = filled-at (faultAt t) 8 (replicate 8 0) 0 (omega arith) place below ∙ simp (le-ltb place (t .count) past)
+      go (no over) = filled-past (faultAt t) 8 (replicate 8 0) 0 place (omega arith) ∙ zero-at-all 8 place
+
+  -- there are eight
+  pub length-own : length (ownChoice t) ≡ 8
+  unfolding ownChoice
+  length-own = length-filled (faultAt t) 8 (replicate 8 0)
+
+  -- and they are a choice of a good table
+  pub own-allowed : tableRefusal t ≡ 0 → Allowed t (ownChoice t)
+  own-allowed good =
+      let known = good-table t good in
+      record {
+        each = λ place below. subst (λ (q : ℕ). (1 ≤ q) × (q ≤ recordAt (t .records) place .priority)) (sym (own-at place below (known .count .1))) (good-at (t .count) (recordAt (t .records)) (known .records) place below .fault);
+        past = own-past;
+      }
+
+  -- so that asking for them is refused only where the table is
+  pub own-refusal : choiceRefusal t (ownChoice t) ≡ tableRefusal t
+  unfolding choiceRefusal orElse
+  own-refusal = go (ℕ-discrete (tableRefusal t) 0)
+    where
+      go : Dec (tableRefusal t ≡ 0) → cond (eqb (tableRefusal t) 0) (cond (allAllowed (levelsOf t) (ownChoice t)) 0 13) (tableRefusal t) ≡ tableRefusal t
+      go (yes good) = simp (eq-eqb (tableRefusal t) 0 good, allowed-exactly t good (ownChoice t) length-own .1 (own-allowed good)) (sym good)
+      go (no broken) = simp (ne-eqb (tableRefusal t) 0 broken)

@@ -127,7 +127,7 @@ fails-at-1 t good choice = go (passes (tasksOf t 1 choice)) refl
 
 -- whether a table passes at an interval, with its own fault priorities
 abbrev pub passesAt : Table → ℕ → Bool
-passesAt t interval = passes (tasksOf t interval (ownChoice (t .records)))
+passesAt t interval = passes (tasksOf t interval (ownChoice t))
 
 -- "the smallest E from 1 to 65,535 at which the sheet passes": the least interval passes, and none below it does
 pub interval-least : (t : Table) (interval : ℕ) → 1 ≤ interval
@@ -152,4 +152,4 @@ interval-none t = (λ e. go (first-says (passesAt t) 65535 1) e, λ fails. first
 -- no least interval of a good table is 1
 pub interval-not-1 : (t : Table) → tableRefusal t ≡ 0 → leastInterval t ≡ 1 → ⊥
 interval-not-1 t good e =
-    true≢false (sym (interval-least t 1 (omega arith) .0 e .1) ∙ fails-at-1 t good (ownChoice (t .records)))
+    true≢false (sym (interval-least t 1 (omega arith) .0 e .1) ∙ fails-at-1 t good (ownChoice t))

@@ -9,6 +9,7 @@ pub mod Limits
 pub mod Difference
 pub mod Easier
 pub mod Slacks
+pub mod Below
 pub mod Former
 pub mod Stages
 pub mod Choice

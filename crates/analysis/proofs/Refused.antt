@@ -1,8 +1,8 @@
 -- What stands beside a refusal, in document 01's words: "In a refusal, and in entries past the count, an entry is deadline 0 beside time 0; the verdict of a refused
 -- call is no"; when 12 and 13 are given; and what stands there where nothing is refused. Assumes nothing.
 use Prim.Native.Nat.{ℕ, _≤_, _<_}
-use mathlib.Core.Path.{_≡_, refl, ap, _∙_}
-use mathlib.Core.Bool.{true, false}
+use mathlib.Core.Path.{_≡_, refl, sym, ap, _∙_}
+use mathlib.Core.Bool.{Bool, true, false}
 use mathlib.Core.List.{List}
 use mathlib.Core.Logic.{_↔_}
 use native.Mathlib.Omega.{arith}
@@ -13,7 +13,7 @@ use Rattle.sheet.specs.declared.Table.{Table}
 use Rattle.sheet.specs.Layout.{recordAt}
 use Rattle.sheet.specs.Rules.{tableRefusal}
 use Rattle.sheet.proofs.Tells.{ltb-tells}
-use Rattle.sheet.proofs.Turns.{length-filled}
+use Rattle.sheet.proofs.Turns.{length-filled, none-of}
 use Rattle.sheet.proofs.Agree.{filled-at}
 use Rattle.sheet.proofs.Cases.{good-table}
 use Rattle.sheet.proofs.Order.{table-in-order}
@@ -22,12 +22,13 @@ use Rattle.analysis.specs.declared.Entry.{Entry}
 use Rattle.analysis.specs.declared.Outcome.the-variants.{OnTime, Late}
 use Rattle.analysis.specs.declared.Slack.the-variants.{Figure}
 use Rattle.analysis.specs.declared.Interval.the-variants.{Refused, Least, Nothing}
-use Rattle.analysis.specs.Tasks.{tasksOf}
+use Rattle.analysis.specs.Tasks.{Tasks, tasksOf}
 use Rattle.analysis.specs.Response.{responseTime, late, passes}
 use Rattle.analysis.specs.Allowed.{levelsOf, allAllowed}
-use Rattle.analysis.specs.Answers.{outcomeOf, slackOf, entryFrom, entryOf, noEntry, ownTasks, timesAnswer, timedRefusal, timedAnswer}
-use Rattle.analysis.specs.Answers.{verdictOf, verdictAnswer, choiceRefusal, choiceAnswer, leastInterval, leastOf, intervalAnswer}
-use Rattle.analysis.proofs.Choice.{Allowed, allowed-exactly, filled-past}
+use Rattle.analysis.specs.Answers.{outcomeOf, saysLate, slackOf, entryFrom, entryOf, noEntry, ownTasks, timedRefusal, timedAnswer}
+use Rattle.analysis.specs.Answers.{choiceRefusal, untimed, assessmentOf, choiceAssessment, ownAssessment, leastInterval, leastOf, intervalAnswer}
+use Rattle.analysis.proofs.Choice.{Allowed, allowed-exactly, filled-past, own-refusal}
+use Rattle.analysis.proofs.Demands.{passes-exactly}
 
 -- "deadline 0 beside time 0"; its slack is 0
 pub record Blank (e : Entry) : Type 0 where
@@ -45,43 +46,22 @@ blank e same =
     }
 
 -- "its deadline beside either a time or the word late", and the slack: what the entry of a record says of its response time
-pub record Answers (t : Table) (place : ℕ) (e : Entry) : Type 0 where
-  pub deadline : e .deadline ≡ recordAt (t .records) place .deadline
-  pub is-late : late (ownTasks t) place ≡ true → e .outcome ≡ Late
-  pub is-on-time : late (ownTasks t) place ≡ false → e .outcome ≡ OnTime (responseTime (ownTasks t) place)
-  pub slack : e .slack ≡ slackOf (recordAt (t .records) place .deadline) (responseTime (ownTasks t) place)
+pub record Answers (s : Tasks) (place : ℕ) (e : Entry) : Type 0 where
+  pub deadline : e .deadline ≡ s .at place .deadline
+  pub is-late : late s place ≡ true → e .outcome ≡ Late
+  pub is-on-time : late s place ≡ false → e .outcome ≡ OnTime (responseTime s place)
+  pub slack : e .slack ≡ slackOf (s .at place .deadline) (responseTime s place)
 
 -- the definition's entry of a record is one
-answers : (t : Table) (place : ℕ) (e : Entry) → e ≡ entryOf (ownTasks t) place → Answers t place e
+answers : (s : Tasks) (place : ℕ) (e : Entry) → e ≡ entryOf s place → Answers s place e
 unfolding entryOf entryFrom outcomeOf
-answers t place e same =
+answers s place e same =
     record {
       deadline = ap (λ (x : Entry). x .deadline) same;
       is-late = λ is. ap (λ (x : Entry). x .outcome) same ∙ simp is;
       is-on-time = λ is. ap (λ (x : Entry). x .outcome) same ∙ simp is;
       slack = ap (λ (x : Entry). x .slack) same;
     }
-
--- `response_times`
-module _ (t : Table) where
-  -- refused, it gives the table's number beside eight such entries
-  pub times-refused : (tableRefusal t ≡ 0 → ⊥)
-      → (timesAnswer t .refusal ≡ tableRefusal t) × (length (timesAnswer t .entries) ≡ 8) × ((place : ℕ) → place < 8 → (other : Entry) → Blank (getD (timesAnswer t .entries) place other))
-  unfolding timesAnswer
-  times-refused broken = simp (ne-eqb (tableRefusal t) 0 broken) (refl, refl, λ place below other. blank _ (getD-replicate 8 place noEntry other below))
-
-  -- else 0 beside an answer for each record, and such entries past the count
-  pub times-given : tableRefusal t ≡ 0
-      → (timesAnswer t .refusal ≡ 0) × (length (timesAnswer t .entries) ≡ 8)
-      × ((place : ℕ) → place < t .count → (other : Entry) → Answers t place (getD (timesAnswer t .entries) place other))
-      × ((place : ℕ) → t .count ≤ place → place < 8 → (other : Entry) → Blank (getD (timesAnswer t .entries) place other))
-  unfolding timesAnswer
-  times-given good = simp (eq-eqb (tableRefusal t) 0 good) (
-    good,
-    length-filled (entryOf (ownTasks t)) (t .count) (replicate 8 noEntry),
-    λ place below other. answers t place _ (filled-at (entryOf (ownTasks t)) (t .count) (replicate 8 noEntry) other (good-table t good .count .1) place below),
-    λ place past below other. blank _ (filled-past (entryOf (ownTasks t)) (t .count) (replicate 8 noEntry) other place past ∙ getD-replicate 8 place noEntry other below),
-  )
 
 -- `response_time`
 module _ (t : Table) (place : ℕ) where
@@ -98,25 +78,13 @@ module _ (t : Table) (place : ℕ) where
   timed-refused broken = simp (ne-eqb (timedRefusal t place) 0 broken) (refl, blank noEntry refl)
 
   -- else 0 beside the record's answer
-  pub timed-given : tableRefusal t ≡ 0 → place < t .count → (timedAnswer t place .refusal ≡ 0) × Answers t place (timedAnswer t place .entry)
+  pub timed-given : tableRefusal t ≡ 0 → place < t .count → (timedAnswer t place .refusal ≡ 0) × Answers (ownTasks t) place (timedAnswer t place .entry)
   unfolding timedAnswer timedRefusal
   timed-given good below =
       let fine = passed-if (tableRefusal t) 12 (table-in-order t .range) (omega arith) (ltb-tells place (t .count)) .1 (good, below) in
-      simp (eq-eqb _ 0 fine) (fine, answers t place (entryOf (ownTasks t) place) refl)
+      simp (eq-eqb _ 0 fine) (fine, answers (ownTasks t) place (entryOf (ownTasks t) place) refl)
 
--- `verdict`
-module _ (t : Table) where
-  -- "the verdict of a refused call is no"
-  pub verdict-refused : (tableRefusal t ≡ 0 → ⊥) → (verdictAnswer t .refusal ≡ tableRefusal t) × (verdictAnswer t .passes ≡ false)
-  unfolding verdictAnswer verdictOf
-  verdict-refused broken = simp (ne-eqb (tableRefusal t) 0 broken) (refl, refl)
-
-  -- else it is whether the sheet passes
-  pub verdict-given : tableRefusal t ≡ 0 → (verdictAnswer t .refusal ≡ 0) × (verdictAnswer t .passes ≡ passes (ownTasks t))
-  unfolding verdictAnswer verdictOf
-  verdict-given good = simp (eq-eqb (tableRefusal t) 0 good) (good, refl)
-
--- `judge_choice` and `choice_verdict`, of eight entries
+-- `judge_choice`, of eight entries
 module _ (t : Table) (choice : List ℕ) (eight : length choice ≡ 8) where
   -- 13 exactly if the table is good and the choice "has an entry outside 1 to that record's p or a nonzero entry past the count"; eight zeros are no choice
   pub choice-13 : (choiceRefusal t choice ≡ 13) ↔ ((tableRefusal t ≡ 0) × (Allowed t choice → ⊥))
@@ -132,17 +100,70 @@ module _ (t : Table) (choice : List ℕ) (eight : length choice ≡ 8) where
       let fine = passed-if (tableRefusal t) 13 (table-in-order t .range) (omega arith) (tests (allAllowed (levelsOf t) choice)) in
       (λ e. let h = fine .0 e in (h .0, allowed-exactly t (h .0) choice eight .0 (h .1)), λ h. fine .1 (h .0, allowed-exactly t (h .0) choice eight .1 (h .1)))
 
-  -- "the verdict of a refused call is no"
-  pub choice-verdict-refused : (choiceRefusal t choice ≡ 0 → ⊥) → (choiceAnswer t choice .refusal ≡ choiceRefusal t choice) × (choiceAnswer t choice .passes ≡ false)
-  unfolding choiceAnswer verdictOf
-  choice-verdict-refused broken = simp (ne-eqb (choiceRefusal t choice) 0 broken) (refl, refl)
+-- `assess_choice`
+module _ (t : Table) (choice : List ℕ) where
+  -- refused, it gives the number beside eight such entries and no, whatever is asked for
+  pub assessed-refused : (choiceRefusal t choice ≡ 0 → ⊥) → (withTimes : Bool) → choiceAssessment t choice withTimes ≡ untimed (choiceRefusal t choice) false
+  unfolding choiceAssessment assessmentOf
+  assessed-refused broken withTimes = simp (ne-eqb (choiceRefusal t choice) 0 broken)
 
-  -- else it is whether the sheet passes under the choice
-  pub choice-verdict-given : tableRefusal t ≡ 0 → Allowed t choice → (choiceAnswer t choice .refusal ≡ 0) × (choiceAnswer t choice .passes ≡ passes (tasksOf t (t .interval) choice))
-  unfolding choiceAnswer verdictOf
-  choice-verdict-given good allowed =
-      let fine = choice-0 .1 (good, allowed) in
-      simp (eq-eqb (choiceRefusal t choice) 0 fine) (fine, refl)
+  -- else 0 beside whether the sheet passes under the choice; without times, beside eight such entries
+  module _ (fine : choiceRefusal t choice ≡ 0) where
+    pub assessed-verdict : (withTimes : Bool) → (choiceAssessment t choice withTimes .refusal ≡ 0) × (choiceAssessment t choice withTimes .passes ≡ passes (tasksOf t (t .interval) choice))
+    unfolding choiceAssessment assessmentOf
+    assessed-verdict withTimes = simp (eq-eqb (choiceRefusal t choice) 0 fine) (fine, refl)
+
+    pub assessed-untimed : choiceAssessment t choice false ≡ untimed 0 (passes (tasksOf t (t .interval) choice))
+    unfolding choiceAssessment assessmentOf
+    assessed-untimed = simp fine
+
+    good : tableRefusal t ≡ 0
+    unfolding choiceRefusal
+    good = none-of (tableRefusal t) _ fine .0
+
+    -- with times, beside an answer for each record, and such entries past the count
+    pub assessed-times : (length (choiceAssessment t choice true .entries) ≡ 8)
+        × ((place : ℕ) → place < t .count → (other : Entry) → Answers (tasksOf t (t .interval) choice) place (getD (choiceAssessment t choice true .entries) place other))
+        × ((place : ℕ) → t .count ≤ place → place < 8 → (other : Entry) → Blank (getD (choiceAssessment t choice true .entries) place other))
+    unfolding choiceAssessment assessmentOf
+    assessed-times =
+        let s = tasksOf t (t .interval) choice in
+        let few = good-table t good .count .1 in
+        simp (eq-eqb (choiceRefusal t choice) 0 fine) (
+          length-filled (entryOf s) (t .count) (replicate 8 noEntry),
+          λ place below other. answers s place _ (filled-at (entryOf s) (t .count) (replicate 8 noEntry) other few place below),
+          λ place past below other. blank _ (filled-past (entryOf s) (t .count) (replicate 8 noEntry) other place past ∙ getD-replicate 8 place noEntry other below),
+        )
+
+    -- yes stands exactly beside entries of which none says late
+    pub yes-exactly : (other : Entry) → (choiceAssessment t choice true .passes ≡ true) ↔ ((place : ℕ) → place < t .count → saysLate (getD (choiceAssessment t choice true .entries) place other .outcome) ≡ false)
+    unfolding saysLate
+    yes-exactly other = (
+      λ yes place below. says place below ∙ passes-exactly s .0 (sym (assessed-verdict true .1) ∙ yes) place below,
+      λ each. assessed-verdict true .1 ∙ passes-exactly s .1 (λ place below. sym (says place below) ∙ each place below),
+    )
+      where
+        s : Tasks
+        s = tasksOf t (t .interval) choice
+
+        says : (place : ℕ) → place < t .count → saysLate (getD (choiceAssessment t choice true .entries) place other .outcome) ≡ late s place
+        says place below = go (late s place) refl
+          where
+            here : Answers s place (getD (choiceAssessment t choice true .entries) place other)
+            here = assessed-times .1 place below other
+
+            go : (b : Bool) → late s place ≡ b → saysLate (getD (choiceAssessment t choice true .entries) place other .outcome) ≡ b
+            go true is = ap saysLate (here .is-late is)
+            go false is = ap saysLate (here .is-on-time is)
+
+-- eight such entries stand in an answer without times
+pub untimed-blank : (refusal : ℕ) (verdict : Bool) (place : ℕ) → place < 8 → (other : Entry) → Blank (getD (untimed refusal verdict .entries) place other)
+untimed-blank refusal verdict place below other = blank _ (getD-replicate 8 place noEntry other below)
+
+-- `assess`: it is refused exactly as the table is
+pub own-refused : (t : Table) (withTimes : Bool) → ownAssessment t withTimes .refusal ≡ tableRefusal t
+unfolding ownAssessment choiceAssessment assessmentOf
+own-refused t withTimes = own-refusal t
 
 -- `least_interval`
 module _ (t : Table) where

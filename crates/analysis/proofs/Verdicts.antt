@@ -1,7 +1,7 @@
 -- The response and the verdict case by case. Assumes nothing.
 use Prim.Native.Nat.{ℕ, zero, suc, _+_, _<_, max}
 use mathlib.Core.Path.{_≡_, refl, sym, ap, ap₂, _∙_}
-use mathlib.Core.Bool.{Bool, true, false, _||_}
+use mathlib.Core.Bool.{Bool, true, false, cond, _||_}
 use mathlib.Core.Logic.{_⊎_, ⊎-elim}
 use native.Mathlib.Nat.{eq-or-lt-of-le, le-of-suc-le-suc, not-suc-le-zero}
 use native.Mathlib.Omega.{arith}
@@ -9,7 +9,9 @@ use native.Mathlib.Numerals.{add-one}
 use borrow.Author.Tests.{eq-eqb, ne-eqb}
 use Rattle.sheet.specs.Places.{someBelow}
 use Rattle.analysis.specs.Tasks.{Tasks}
-use Rattle.analysis.specs.Response.{timeElsewhere, timeItself, responseWithin}
+use Rattle.analysis.specs.Response.{timeElsewhere, timeItself, responseWithin, responseTime, late}
+use Rattle.analysis.specs.declared.Outcome.the-variants.{OnTime, Late}
+use Rattle.analysis.specs.Answers.{outcomeOf, saysLate, entryFrom, entryOf}
 
 module _ (limit : ℕ) (s : Tasks) (i : ℕ) where
   pub late-elsewhere : timeElsewhere limit s i ≡ 0 → 0 ≡ responseWithin limit s i
@@ -25,10 +27,24 @@ module _ (limit : ℕ) (s : Tasks) (i : ℕ) where
     unfolding responseWithin
     on-time second = simp (ne-eqb (timeElsewhere limit s i) 0 first, ne-eqb (timeItself limit s i) 0 second)
 
+-- an entry says late exactly if its task is
+pub entry-late : (s : Tasks) (i : ℕ) → saysLate (entryOf s i .outcome) ≡ late s i
+unfolding saysLate entryOf entryFrom outcomeOf
+entry-late s i = go (late s i)
+  where
+    go : (is : Bool) → saysLate (cond is Late (OnTime (responseTime s i))) ≡ is
+    go true = refl
+    go false = refl
+
+-- whether a test holds at some place, one place more
+pub some-next : (test : ℕ → Bool) (n : ℕ) → someBelow test (n + 1) ≡ (someBelow test n || test n)
+unfolding someBelow
+some-next test n = rw add-one refl
+
 -- a test that holds at no place so far, and not at the next
 pub some-more : (test : ℕ → Bool) (n : ℕ) → someBelow test n ≡ false → test n ≡ false → someBelow test (n + 1) ≡ false
 unfolding someBelow
-some-more test n before here = rw add-one (ap₂ _||_ before here)
+some-more test n before here = some-next test n ∙ ap₂ _||_ before here
 
 -- a test that holds at a place holds at some
 pub some-found : (test : ℕ → Bool) (k n : ℕ) → k < n → test k ≡ true → someBelow test n ≡ true

@@ -1,6 +1,6 @@
 -- What each public call answers, refusals included; for an answer that is an enum, this paper's number and values for each case.
 use Prim.Native.Nat.{ℕ}
-use mathlib.Core.Bool.{Bool, false, cond}
+use mathlib.Core.Bool.{Bool, true, false, cond, _&&_}
 use mathlib.Core.List.{List}
 use lib.Dec.{eqb, ltb}
 use lib.IntN.{pos, _-ℤ_}
@@ -13,9 +13,8 @@ use Rattle.analysis.specs.declared.Outcome.the-variants.{OnTime, Late}
 use Rattle.analysis.specs.declared.Slack.{Slack}
 use Rattle.analysis.specs.declared.Slack.the-variants.{Figure, NoFigure}
 use Rattle.analysis.specs.declared.Entry.{Entry}
-use Rattle.analysis.specs.declared.Times.{Times}
 use Rattle.analysis.specs.declared.Timed.{Timed}
-use Rattle.analysis.specs.declared.Passing.{Passing}
+use Rattle.analysis.specs.declared.Assessment.{Assessment}
 use Rattle.analysis.specs.declared.Interval.{Interval}
 use Rattle.analysis.specs.declared.Interval.the-variants.{Refused, Least, Nothing}
 use Rattle.analysis.specs.Tasks.{Tasks, tasksOf, ownChoice}
@@ -26,6 +25,11 @@ use Rattle.analysis.specs.Allowed.{levelsOf, allAllowed}
 -- "either a time or the word late"
 unfoldable pub outcomeOf : ℕ → ℕ → Outcome
 outcomeOf deadline time = cond (isLate deadline time) Late (OnTime time)
+
+-- whether it is the word late
+unfoldable pub saysLate : Outcome → Bool
+saysLate (OnTime time) = false
+saysLate Late = true
 
 -- document 02, request 2: "the slack, deadline minus response, negative when late and zero at an exact fit. Where no value exists within 65,535 there is no figure."
 unfoldable pub slackOf : ℕ → ℕ → Slack
@@ -45,11 +49,7 @@ noEntry = record { deadline = 0; outcome = OnTime 0; slack = Figure (pos 0) }
 
 -- a table's tasks under its own interval and its own fault priorities
 abbrev pub ownTasks : Table → Tasks
-ownTasks t = tasksOf t (t .interval) (ownChoice (t .records))
-
--- `response_times`: the refusal beside eight entries
-unfoldable pub timesAnswer : Table → Times
-timesAnswer t = record { refusal = tableRefusal t; entries = cond (eqb (tableRefusal t) 0) (filledBelow (entryOf (ownTasks t)) (t .count) (replicate 8 noEntry)) (replicate 8 noEntry) }
+ownTasks t = tasksOf t (t .interval) (ownChoice t)
 
 -- the refusal of `response_time`: the table's, then 12, "the record place asked for is not below the count"
 unfoldable pub timedRefusal : Table → ℕ → ℕ
@@ -59,25 +59,34 @@ timedRefusal t place = orElse (tableRefusal t) (cond (ltb place (t .count)) 0 12
 unfoldable pub timedAnswer : Table → ℕ → Timed
 timedAnswer t place = record { refusal = timedRefusal t place; entry = cond (eqb (timedRefusal t place) 0) (entryOf (ownTasks t) place) noEntry }
 
--- the refusal beside yes or no; "the verdict of a refused call is no"
-unfoldable pub verdictOf : ℕ → Bool → Passing
-verdictOf refusal yes-or-no = record { refusal = refusal; passes = cond (eqb refusal 0) yes-or-no false }
-
--- `verdict`: whether the table passes under its own fault priorities
-unfoldable pub verdictAnswer : Table → Passing
-verdictAnswer t = verdictOf (tableRefusal t) (passes (ownTasks t))
-
 -- `judge_choice`: the table's refusal, then 13, "an entry outside 1 to that record's p or a nonzero entry past the count"; all zero is no choice, and refused like any other
 unfoldable pub choiceRefusal : Table → List ℕ → ℕ
 choiceRefusal t choice = orElse (tableRefusal t) (cond (allAllowed (levelsOf t) choice) 0 13)
 
--- `choice_verdict`: whether the table passes under a choice, which takes the place of its own fault priorities
-unfoldable pub choiceAnswer : Table → List ℕ → Passing
-choiceAnswer t choice = verdictOf (choiceRefusal t choice) (passes (tasksOf t (t .interval) choice))
+-- an answer without times: the refusal and the verdict, eight such entries between them
+abbrev pub untimed : ℕ → Bool → Assessment
+untimed refusal yes-or-no = record { refusal = refusal; entries = replicate 8 noEntry; passes = yes-or-no }
+
+-- document 02, request 5: "one call whose answer holds both": the refusal, an entry for each record where the times are asked for, and the verdict; "the verdict of a refused call is no"
+unfoldable pub assessmentOf : ℕ → Tasks → Bool → Assessment
+assessmentOf refusal s withTimes =
+    record {
+      refusal = refusal;
+      entries = cond (eqb refusal 0 && withTimes) (filledBelow (entryOf s) (s .count) (replicate 8 noEntry)) (replicate 8 noEntry);
+      passes = cond (eqb refusal 0) (passes s) false;
+    }
+
+-- `assess_choice`: under a choice, which takes the place of the table's own fault priorities
+unfoldable pub choiceAssessment : Table → List ℕ → Bool → Assessment
+choiceAssessment t choice = assessmentOf (choiceRefusal t choice) (tasksOf t (t .interval) choice)
+
+-- `assess`: under the table's own fault priorities
+unfoldable pub ownAssessment : Table → Bool → Assessment
+ownAssessment t = choiceAssessment t (ownChoice t)
 
 -- "the smallest E from 1 to 65,535 at which the sheet passes with its own fault priorities"; 0 if there is none
 unfoldable pub leastInterval : Table → ℕ
-leastInterval t = firstFrom (λ interval. passes (tasksOf t interval (ownChoice (t .records)))) 1 65535
+leastInterval t = firstFrom (λ interval. passes (tasksOf t interval (ownChoice t))) 1 65535
 
 -- a refusal's number, the interval, or "none"
 unfoldable pub leastOf : ℕ → ℕ → Interval

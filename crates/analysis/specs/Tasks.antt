@@ -1,6 +1,8 @@
 -- What the equations read: the records, the fault interval E, and a fault priority for each record, which a choice beside the table gives.
 use Prim.Native.Nat.{ℕ}
+use mathlib.Core.Bool.{cond}
 use mathlib.Core.List.{List}
+use lib.Dec.{ltb}
 use lib.ListN.{getD, replicate}
 use Rattle.sheet.specs.declared.Record.{Record}
 use Rattle.sheet.specs.declared.Table.{Table}
@@ -17,6 +19,10 @@ pub record Tasks : Type 0 where
 abbrev pub tasksOf : Table → ℕ → List ℕ → Tasks
 tasksOf t interval choice = record { count = t .count; at = recordAt (t .records); interval = interval; fault = λ place. getD choice place 0 }
 
+-- a record's own fault priority, 0 past the count
+unfoldable pub faultAt : Table → ℕ → ℕ
+faultAt t place = cond (ltb place (t .count)) (recordAt (t .records) place .«fault_priority») 0
+
 -- the sheet's own fault priorities, as a choice
-unfoldable pub ownChoice : List Record → List ℕ
-ownChoice records = filledBelow (λ place. recordAt records place .«fault_priority») 8 (replicate 8 0)
+unfoldable pub ownChoice : Table → List ℕ
+ownChoice t = filledBelow (faultAt t) 8 (replicate 8 0)

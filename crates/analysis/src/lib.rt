@@ -1,8 +1,7 @@
 // Response times, the verdict and the least fault interval of a timing table, by the equations of document 01.
 // Every call answers any table: a refused one gets its number, beside zeros, no, or nothing else.
 ghost use mathlib.Core.Path.{_≡_};
-ghost use Rattle.analysis.specs.Answers.{timesAnswer, timedRefusal, timedAnswer, verdictOf, verdictAnswer, choiceRefusal, choiceAnswer, intervalAnswer};
-ghost use Rattle.analysis.specs.Response.{passes};
+ghost use Rattle.analysis.specs.Answers.{timedRefusal, timedAnswer, choiceRefusal, assessmentOf, choiceAssessment, ownAssessment, intervalAnswer};
 ghost use Rattle.analysis.specs.Tasks.{tasksOf};
 ghost use Rattle.sheet.specs.Rules.{tableRefusal};
 use sheet::Table;
@@ -31,21 +30,16 @@ pub struct Entry {
     pub slack: Slack,
 }
 
-// What `response_times` answers: the refusal, or 0 beside an entry for each record.
-pub struct Times {
-    pub refusal: u8,
-    pub entries: [Entry; 8],
-}
-
 // What `response_time` answers: the refusal, or 0 beside the record's entry.
 pub struct Timed {
     pub refusal: u8,
     pub entry: Entry,
 }
 
-// What `verdict` and `choice_verdict` answer: the refusal, or 0 beside yes or no.
-pub struct Passing {
+// What `assess` and `assess_choice` answer: the refusal, or 0 beside an entry for each record and whether no task is late.
+pub struct Assessment {
     pub refusal: u8,
+    pub entries: [Entry; 8],
     pub passes: bool,
 }
 
@@ -64,24 +58,6 @@ pub struct Demand {
     pub low: u8,
     pub backup: u16,
     pub paid: u64,
-}
-
-// Each record's response time, or late, beside its deadline.
-pub fn response_times(table: Table) -> Times
-    ensures { λ r. ⌜ r ≡ timesAnswer table ⌝ }
-{
-    let refusal = sheet::judge_table(table);
-    if refusal != 0 {
-        return Times {
-            refusal,
-            entries: response::no_entries(),
-        };
-    }
-    let entries = response::entries(table);
-    Times {
-        refusal: 0,
-        entries,
-    }
 }
 
 // The refusal of asking a table for the record at a place: the table's own, then 12.
@@ -106,38 +82,8 @@ pub fn response_time(table: Table, place: usize) -> Timed
             entry: response::no_entry(),
         };
     }
-    let records = table.records;
-    let entry = response::entry(table, response::own_choice(records), place);
+    let entry = response::entry(table, response::own_choice(table), place);
     Timed { refusal: 0, entry }
-}
-
-// The refusal beside yes or no: whether no task is late under a choice, and no where it is refused.
-fn verdict_of(refusal: u8, table: Table, choice: [u8; 8]) -> Passing
-    requires { ⌜ (refusal ≡ 0 → tableRefusal table ≡ 0) ⌝ }
-    ensures { λ r. ⌜ r ≡ verdictOf refusal (passes (tasksOf table (table .interval) choice)) ⌝ }
-{
-    if refusal != 0 {
-        return Passing {
-            refusal,
-            passes: false,
-        };
-    }
-    Passing {
-        refusal: 0,
-        passes: response::passes(table, table.interval, choice),
-    }
-}
-
-// Whether no task is late.
-pub fn verdict(table: Table) -> Passing
-    ensures { λ r. ⌜ r ≡ verdictAnswer table ⌝ }
-{
-    let records = table.records;
-    verdict_of(
-        sheet::judge_table(table),
-        table,
-        response::own_choice(records),
-    )
 }
 
 // The refusal of a choice of fault priorities: the table's own, then 13.
@@ -155,11 +101,37 @@ pub fn judge_choice(table: Table, choice: [u8; 8]) -> u8
     }
 }
 
-// Whether no task is late under a choice of fault priorities, which takes the place of the sheet's own.
-pub fn choice_verdict(table: Table, choice: [u8; 8]) -> Passing
-    ensures { λ r. ⌜ r ≡ choiceAnswer table choice ⌝ }
+// The refusal, or what is asked of a good table under a choice: without times, the search ends at the first late task.
+fn answer(refusal: u8, table: Table, choice: [u8; 8], with_times: bool) -> Assessment
+    requires { ⌜ (refusal ≡ 0 → tableRefusal table ≡ 0) ⌝ }
+    ensures { λ r. ⌜ r ≡ assessmentOf refusal (tasksOf table (table .interval) choice) «with_times» ⌝ }
 {
-    verdict_of(judge_choice(table, choice), table, choice)
+    if refusal != 0 {
+        return response::no_times(refusal, false);
+    }
+    if with_times {
+        return response::assessment(table, choice);
+    }
+    response::no_times(0, response::passes(table, table.interval, choice))
+}
+
+// Each record's entry, where the times are asked for, and whether no task is late, under a choice that takes the place of the table's own fault priorities.
+pub fn assess_choice(table: Table, choice: [u8; 8], with_times: bool) -> Assessment
+    ensures { λ r. ⌜ r ≡ choiceAssessment table choice «with_times» ⌝ }
+{
+    answer(judge_choice(table, choice), table, choice, with_times)
+}
+
+// The same under the table's own fault priorities, which are a choice of every good table.
+pub fn assess(table: Table, with_times: bool) -> Assessment
+    ensures { λ r. ⌜ r ≡ ownAssessment table «with_times» ⌝ }
+{
+    answer(
+        sheet::judge_table(table),
+        table,
+        response::own_choice(table),
+        with_times,
+    )
 }
 
 // The smallest fault interval at which the table passes with its own fault priorities.

@@ -1,20 +1,19 @@
 // Response times: struck elsewhere, struck itself, the larger of both; and what is asked of all records together.
 // Fault priorities come from a choice beside the table. Each time is searched for up to a limit: 65,535 for a figure, the deadline for the verdict.
 ghost use mathlib.Core.Path.{_≡_};
+ghost use mathlib.Core.Bool.{true};
 ghost use Prim.Native.Nat.{_≤_, _<_};
-ghost use lib.ListN.{replicate};
 ghost use Rattle.sheet.specs.Rules.{tableRefusal};
-ghost use Rattle.sheet.specs.Places.{filledBelow};
-ghost use Rattle.analysis.specs.Tasks.{tasksOf, ownChoice};
+ghost use Rattle.analysis.specs.Tasks.{tasksOf, faultAt, ownChoice};
 ghost use Rattle.analysis.specs.Response.{timeElsewhere, timeItself, responseWithin, late, passes};
-ghost use Rattle.analysis.specs.Answers.{outcomeOf, slackOf, entryOf, noEntry, ownTasks, leastInterval};
+ghost use Rattle.analysis.specs.Answers.{outcomeOf, saysLate, slackOf, entryOf, noEntry, untimed, assessmentOf, leastInterval};
+use crate::Assessment;
 use crate::Demand;
 use crate::Entry;
 use crate::Outcome;
 use crate::Slack;
 use crate::search;
 use crate::workload;
-use sheet::Record;
 use sheet::Table;
 
 // The longest response time that is searched for.
@@ -110,21 +109,36 @@ pub fn no_entry() -> Entry
     }
 }
 
-// Eight of them.
-pub fn no_entries() -> [Entry; 8]
-    ensures { λ r. ⌜ r ≡ replicate 8 noEntry ⌝ }
+// The answer without times: the refusal and the verdict.
+pub fn no_times(refusal: u8, passes: bool) -> Assessment
+    ensures { λ r. ⌜ r ≡ untimed refusal passes ⌝ }
 {
-    [no_entry(); 8]
+    Assessment {
+        refusal,
+        entries: [no_entry(); 8],
+        passes,
+    }
+}
+
+// A record's own fault priority, 0 past the count.
+fn fault_at(table: Table, place: usize) -> u8
+    requires { ⌜ place < 8 ⌝ }
+    ensures { λ r. ⌜ r ≡ faultAt table place ⌝ }
+{
+    if place < table.count as usize {
+        return table.records[place].fault_priority;
+    }
+    0
 }
 
 // The sheet's own fault priorities.
-pub fn own_choice(records: [Record; 8]) -> [u8; 8]
-    ensures { λ r. ⌜ r ≡ ownChoice records ⌝ }
+pub fn own_choice(table: Table) -> [u8; 8]
+    ensures { λ r. ⌜ r ≡ ownChoice table ⌝ }
 {
     let mut choice = [0u8; 8];
     let mut place: usize = 0;
     while place < 8 {
-        choice[place] = records[place].fault_priority;
+        choice[place] = fault_at(table, place);
         place += 1;
     }
     choice
@@ -145,21 +159,37 @@ pub fn entry(table: Table, choice: [u8; 8], place: usize) -> Entry
     }
 }
 
-// The entries of a good table.
-pub fn entries(table: Table) -> [Entry; 8]
+// Whether an outcome is the word late.
+fn says_late(outcome: Outcome) -> bool
+    ensures { λ r. ⌜ r ≡ saysLate outcome ⌝ }
+{
+    match outcome {
+        Outcome::OnTime(_) => false,
+        Outcome::Late => true,
+    }
+}
+
+// The entries of a good table under a choice, and whether none of them says late.
+pub fn assessment(table: Table, choice: [u8; 8]) -> Assessment
     requires { ⌜ tableRefusal table ≡ 0 ⌝ }
-    ensures { λ r. ⌜ r ≡ filledBelow (entryOf (ownTasks table)) (table .count) (replicate 8 noEntry) ⌝ }
+    ensures { λ r. ⌜ r ≡ assessmentOf 0 (tasksOf table (table .interval) choice) true ⌝ }
 {
     let count = table.count as usize;
-    let records = table.records;
-    let choice = own_choice(records);
-    let mut filled = [no_entry(); 8];
+    let mut entries = [no_entry(); 8];
+    let mut some_late = false;
     let mut place: usize = 0;
     while place < count {
-        filled[place] = entry(table, choice, place);
+        let filled = entry(table, choice, place);
+        let outcome = filled.outcome;
+        entries[place] = filled;
+        some_late = some_late | says_late(outcome);
         place += 1;
     }
-    filled
+    Assessment {
+        refusal: 0,
+        entries,
+        passes: !some_late,
+    }
 }
 
 // Whether the record at a place is late, which a search up to its deadline decides.
@@ -193,8 +223,7 @@ pub fn least(table: Table) -> u16
     requires { ⌜ tableRefusal table ≡ 0 ⌝ }
     ensures { λ r. ⌜ r ≡ leastInterval table ⌝ }
 {
-    let records = table.records;
-    let choice = own_choice(records);
+    let choice = own_choice(table);
     let mut interval: u16 = 2;
     loop {
         if passes(table, interval, choice) {

@@ -1,9 +1,9 @@
 // What is answered in each form of row. A row has the figures: the table, what is asked of it, and what is replaced in it (samples::table).
 use crate::samples;
+use analysis::Assessment;
 use analysis::Entry;
 use analysis::Interval;
 use analysis::Outcome;
-use analysis::Passing;
 use sheet::Table;
 
 // Says a refusal, or nothing for 0.
@@ -53,16 +53,15 @@ fn say_entries(list: &[u8], at: usize, entries: [Entry; 8]) -> usize {
     end
 }
 
-// Says a table's response times.
-fn say_times(list: &[u8], at: usize, table: Table) -> usize {
-    let answer = analysis::response_times(table);
+// Says an answer's response times.
+fn say_times(list: &[u8], at: usize, answer: Assessment) -> usize {
     let entries = answer.entries;
     let refused = say_refusal(list, at, answer.refusal);
     say_entries(list, refused, entries)
 }
 
-// Says a verdict.
-fn say_passing(list: &[u8], at: usize, answer: Passing) -> usize {
+// Says an answer's verdict.
+fn say_verdict(list: &[u8], at: usize, answer: Assessment) -> usize {
     let word = if answer.passes {
         rows::say(list, at, b" yes")
     } else {
@@ -83,7 +82,8 @@ fn say_interval(list: &[u8], at: usize, table: Table) -> usize {
 
 // The response times.
 pub fn times(list: &[u8], start: usize, at: usize) -> usize {
-    say_times(list, at, samples::table(list, start))
+    let table = samples::table(list, start);
+    say_times(list, at, analysis::assess(table, true))
 }
 
 // The response time at a place, which is asked for.
@@ -97,14 +97,22 @@ pub fn time(list: &[u8], start: usize, at: usize) -> usize {
 // The verdict.
 pub fn verdict(list: &[u8], start: usize, at: usize) -> usize {
     let table = samples::table(list, start);
-    say_passing(list, at, analysis::verdict(table))
+    say_verdict(list, at, analysis::assess(table, false))
 }
 
 // The verdict under a choice, which is asked for.
 pub fn verdict_under(list: &[u8], start: usize, at: usize) -> usize {
     let table = samples::table(list, start);
     let choice = rows::choice(rows::figure(list, start, 2));
-    say_passing(list, at, analysis::choice_verdict(table, choice))
+    say_verdict(list, at, analysis::assess_choice(table, choice, false))
+}
+
+// The times and the verdict, in one answer, under a choice, which is asked for.
+pub fn both_under(list: &[u8], start: usize, at: usize) -> usize {
+    let table = samples::table(list, start);
+    let choice = rows::choice(rows::figure(list, start, 2));
+    let answer = analysis::assess_choice(table, choice, true);
+    say_verdict(list, say_times(list, at, answer), answer)
 }
 
 // The least interval.
@@ -115,11 +123,12 @@ pub fn interval(list: &[u8], start: usize, at: usize) -> usize {
 // Every call's answer, that of the verdict under 1 1 1 among them.
 pub fn every(list: &[u8], start: usize, at: usize) -> usize {
     let table = samples::table(list, start);
-    let at = say_times(list, rows::say(list, at, b", times:"), table);
+    let both = analysis::assess(table, true);
+    let at = say_times(list, rows::say(list, at, b", times:"), both);
     let at = rows::say(list, at, b", verdict:");
-    let at = say_passing(list, at, analysis::verdict(table));
+    let at = say_verdict(list, at, analysis::assess(table, false));
     let at = rows::say(list, at, b", verdict under 1 1 1:");
     let choice = rows::choice(11100000);
-    let at = say_passing(list, at, analysis::choice_verdict(table, choice));
+    let at = say_verdict(list, at, analysis::assess_choice(table, choice, false));
     say_interval(list, rows::say(list, at, b", least interval:"), table)
 }

@@ -34,6 +34,7 @@ fn row(tally: Tally, list: &[u8], start: usize) -> Tally {
         b'o' => answers::time(list, start, at),
         b'v' => answers::verdict(list, start, at),
         b'c' => answers::verdict_under(list, start, at),
+        b'b' => answers::both_under(list, start, at),
         b'i' => answers::interval(list, start, at),
         b'e' => answers::every(list, start, at),
         _ => rows::MISSED,

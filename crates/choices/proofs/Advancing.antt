@@ -17,7 +17,7 @@ use Rattle.sheet.proofs.Refused.{passed-if, tests}
 use Rattle.sheet.proofs.Cases.{good-table, good-at}
 use Rattle.analysis.specs.Tasks.{tasksOf}
 use Rattle.analysis.specs.Response.{passes}
-use Rattle.analysis.specs.Answers.{verdictOf, choiceRefusal, choiceAnswer}
+use Rattle.analysis.specs.Answers.{choiceRefusal, assessmentOf, choiceAssessment}
 use Rattle.analysis.specs.Allowed.{levelsOf, allAllowed}
 use Rattle.analysis.proofs.Choice.{length-levels, level-at}
 use Rattle.choices.specs.Choices.{choicesOf, sift, passingOf}
@@ -110,6 +110,6 @@ module _ (t : Table) (good : tableRefusal t ≡ 0) where
           ∙ sym (sift-sift-commute later (passesWith t) (choicesOf (levelsOf t)))
 
   -- the verdict on a good table under an allowed choice
-  pub verdict-passes : (choice : List ℕ) → allAllowed (levelsOf t) choice ≡ true → choiceAnswer t choice .passes ≡ passesWith t choice
-  unfolding choiceAnswer verdictOf choiceRefusal
+  pub verdict-passes : (choice : List ℕ) → allAllowed (levelsOf t) choice ≡ true → choiceAssessment t choice false .passes ≡ passesWith t choice
+  unfolding choiceAssessment assessmentOf choiceRefusal
   verdict-passes choice allowed = simp (good, allowed, next-of 0 refl)

@@ -12,7 +12,7 @@ use Rattle.analysis.specs.declared.Slack.the-variants.{Figure, NoFigure}
 use Rattle.analysis.specs.declared.Entry.{Entry}
 use Rattle.analysis.specs.Rounding.{up}
 use Rattle.analysis.specs.Totals.{sumBelow, mostBelow}
-use Rattle.analysis.specs.Tasks.{ownChoice}
+use Rattle.analysis.specs.Tasks.{faultAt, ownChoice}
 use Rattle.analysis.specs.Backups.{others, everyone, backupOf, largestBackup, backupElsewhere, backupFromFault}
 use Rattle.analysis.specs.Equations.{isBetween, struckElsewhere, struckItself}
 use Rattle.analysis.specs.Search.{firstFrom, leastWithin}
@@ -120,7 +120,7 @@ rows =
 pub rows-hold : All rows
 unfolding rows times choice sheetA lone task together sheet
     headerOf countOf intervalOf partOf recordFrom recordOf sheetRecord recordAt room tableOf regrouped filledBelow someBelow
-    up sumBelow mostBelow ownChoice others everyone backupOf largestBackup backupElsewhere backupFromFault
+    up sumBelow mostBelow faultAt ownChoice others everyone backupOf largestBackup backupElsewhere backupFromFault
     isBetween struckElsewhere struckItself firstFrom leastWithin timeElsewhere timeItself responseWithin responseTime isLate passes
     outcomeOf slackOf entryFrom entryOf entriesBelow onTime lateBy lateBeyond
     levelsOf inRow entriesFor spread choicesOf sift passingOf before afterOf

@@ -113,7 +113,7 @@ pub fn advance(table: Table, start: [u8; 8]) -> Found
         if found.is_there {
             let later = found.choice;
             choice = later;
-            if analysis::choice_verdict(table, choice).passes {
+            if analysis::assess_choice(table, choice, false).passes {
                 return Found {
                     is_there: true,
                     choice,

@@ -14,9 +14,11 @@ mod standing;
 
 // Prints the answer to a good sheet, its times and then its choices, and gives how it stands.
 fn answer(table: Table) -> u8 {
-    if responses::print(table) {
+    let assessment = analysis::assess(table, true);
+    let entries = assessment.entries;
+    if responses::print(table, entries) {
         if passing::print(table) {
-            return standing::of(table);
+            return standing::of(assessment.passes);
         }
     }
     output::failed()

@@ -1,11 +1,11 @@
 // The interval and the response of each record.
 use crate::output;
+use analysis::Entry;
 use sheet::Table;
 
 // Prints the interval line and a line for each record.
-pub fn print(table: Table) -> bool {
+pub fn print(table: Table, entries: [Entry; 8]) -> bool {
     let mut buffer = io::buffer();
-    let entries = analysis::response_times(table).entries;
     let mut end = report::put_line(report::interval_line(table.interval), &mut buffer, 0);
     let mut place: u8 = 0;
     while place < 8 && place < table.count {

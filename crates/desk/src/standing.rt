@@ -1,6 +1,4 @@
 // How a sheet stands, in the statuses of the run command, and how the program is asked for it.
-use sheet::Table;
-
 // The sheet passes as it stands.
 pub const PASSES: u8 = 0;
 
@@ -33,13 +31,9 @@ pub fn asked() -> u8 {
     NOTHING
 }
 
-// How a good sheet stands.
-pub fn of(table: Table) -> u8 {
-    if analysis::verdict(table).passes {
-        PASSES
-    } else {
-        LATE
-    }
+// How a good sheet stands, by its verdict.
+pub fn of(passes: bool) -> u8 {
+    if passes { PASSES } else { LATE }
 }
 
 // Tells how the sheet stands, if that was asked for.

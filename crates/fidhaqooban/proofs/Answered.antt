@@ -21,12 +21,13 @@ use Rattle.sheet.proofs.Cases.{good-place}
 use Rattle.sheet.proofs.Demands.{read-good, table-good}
 use Rattle.analysis.specs.declared.Entry.{Entry}
 use Rattle.analysis.specs.declared.Timed.{Timed}
-use Rattle.analysis.specs.declared.Passing.{Passing}
+use Rattle.analysis.specs.declared.Assessment.{Assessment}
 use Rattle.analysis.specs.declared.Interval.{Interval}
 use Rattle.analysis.specs.declared.Interval.the-variants.{Refused, Least, Nothing}
 use Rattle.analysis.specs.Response.{passes}
-use Rattle.analysis.specs.Answers.{ownTasks, entryOf, timedRefusal, timedAnswer, verdictOf, verdictAnswer, leastInterval, leastOf, intervalAnswer}
+use Rattle.analysis.specs.Answers.{ownTasks, entryOf, timedRefusal, timedAnswer, assessmentOf, choiceAssessment, ownAssessment, leastInterval, leastOf, intervalAnswer}
 use Rattle.fidhaqooban.specs.Numbers.{answerOf, timeOf}
+use Rattle.analysis.proofs.Choice.{own-refusal}
 use Rattle.fidhaqooban.specs.Answers.{responseNumber, verdictNumber, intervalNumber}
 
 -- a number that is not 0 is tested so
@@ -113,11 +114,11 @@ module _ (s : List ℕ) (reading : Reading) (e : reading ≡ readAnswer s) (left
         answered (timed .refusal) _ _ (λ fine. ap (λ (x : Entry). timeOf (x .outcome)) (timed-entry fine))
         ∙ ap (λ (r : ℕ). answerOf r (timeOf (entryOf (ownTasks (tableOf s)) place .outcome))) timed-refused
 
-  pub verdict-is : (passing : Passing) → passing ≡ verdictAnswer (reading .table) → answerOf (passing .refusal) (cond (passing .passes) 1 0) ≡ verdictNumber s
-  unfolding verdictAnswer verdictOf verdictNumber
-  verdict-is passing given =
-      ap (λ (p : Passing). answerOf (p .refusal) (cond (p .passes) 1 0)) (given ∙ ap verdictAnswer (table-read s reading e left))
-      ∙ simp (good-table-read, good-read s reading e left)
+  pub verdict-is : (assessed : Assessment) → assessed ≡ ownAssessment (reading .table) false → answerOf (assessed .refusal) (cond (assessed .passes) 1 0) ≡ verdictNumber s
+  unfolding ownAssessment choiceAssessment assessmentOf verdictNumber
+  verdict-is assessed given =
+      ap (λ (a : Assessment). answerOf (a .refusal) (cond (a .passes) 1 0)) (given ∙ ap (λ (t : Table). ownAssessment t false) (table-read s reading e left))
+      ∙ simp (own-refusal (tableOf s), good-table-read, good-read s reading e left)
 
   pub interval-is : (interval : Interval) → interval ≡ intervalAnswer (reading .table) → intervalAnswered interval ≡ intervalNumber s
   unfolding intervalAnswer intervalNumber

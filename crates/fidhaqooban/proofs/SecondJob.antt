@@ -6,7 +6,7 @@ use Rattle.sheet.specs.Packing.{regrouped}
 use Rattle.sheet.specs.Layout.{headerOf, countOf, intervalOf, partOf, recordFrom, recordOf, sheetRecord, recordAt, room, tableOf}
 use Rattle.analysis.specs.Rounding.{up}
 use Rattle.analysis.specs.Totals.{sumBelow, mostBelow}
-use Rattle.analysis.specs.Tasks.{ownChoice}
+use Rattle.analysis.specs.Tasks.{faultAt, ownChoice}
 use Rattle.analysis.specs.Backups.{others, everyone, backupOf, largestBackup, backupElsewhere, backupFromFault}
 use Rattle.analysis.specs.Equations.{isBetween, struckElsewhere, struckItself}
 use Rattle.analysis.specs.Search.{firstFrom, leastWithin}
@@ -18,14 +18,14 @@ use Rattle.replay.proofs.Rows.{sheet, leftAfter, first-done}
 -- "By 01 the first task takes 10."
 pub former-figure : formerResponse 65535 (ownTasks (tableOf sheet)) 0 ≡ 10
 unfolding sheet headerOf countOf intervalOf partOf recordFrom recordOf sheetRecord recordAt room tableOf regrouped filledBelow someBelow
-    up sumBelow mostBelow ownChoice others everyone backupOf largestBackup backupElsewhere backupFromFault backupAfter
+    up sumBelow mostBelow faultAt ownChoice others everyone backupOf largestBackup backupElsewhere backupFromFault backupAfter
     stageOne stageTwo lengthOne formerItself formerResponse struckElsewhere firstFrom leastWithin timeElsewhere
 former-figure = refl
 
 -- "The task above now gets 14."
 pub figure : responseTime (ownTasks (tableOf sheet)) 0 ≡ 14
 unfolding sheet headerOf countOf intervalOf partOf recordFrom recordOf sheetRecord recordAt room tableOf regrouped filledBelow someBelow
-    up sumBelow mostBelow ownChoice others everyone backupOf largestBackup backupElsewhere backupFromFault
+    up sumBelow mostBelow faultAt ownChoice others everyone backupOf largestBackup backupElsewhere backupFromFault
     isBetween struckElsewhere struckItself firstFrom leastWithin timeElsewhere timeItself responseWithin responseTime
 figure = refl
 

@@ -100,8 +100,8 @@ pub extern "C" fn fq_verdict(sheet: &[u8]) -> i64
         return numbers::answer(reading.refusal, 0);
     }
     let table = reading.table;
-    let passing = analysis::verdict(table);
-    numbers::answer(passing.refusal, passing.passes as usize)
+    let assessment = analysis::assess(table, false);
+    numbers::answer(assessment.refusal, assessment.passes as usize)
 }
 
 // The least interval at which the sheet passes, 0 where there is none.

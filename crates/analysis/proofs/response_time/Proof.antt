@@ -28,14 +28,14 @@ own-choice-requires c κs = search needs
 entry-requires : tie.Need-entry-requires
 unfolding timedRefusal
 entry-requires c κs =
-    let table = c .before .before .before .before .args .table in
-    let good = none-of (tableRefusal table) _ (sym (c .before .before .before .judge-record-place .ensures) ∙ c .before .before .if1 .left) in
+    let table = c .before .before .before .args .table in
+    let good = none-of (tableRefusal table) _ (sym (c .before .before .judge-record-place .ensures) ∙ c .before .if1 .left) in
     (good .0, place-below _ _ (good .1))
 
 returns-2 : tie.Need-returns-2
 unfolding timedAnswer
 returns-2 c =
-    let good = sym (c .before .before .before .before .judge-record-place .ensures) ∙ c .before .before .before .if1 .left in
+    let good = sym (c .before .before .before .judge-record-place .ensures) ∙ c .before .before .if1 .left in
     simp (good, c .entry .ensures, c .before .own-choice .ensures)
 
 pub response-time-spec : {M : Type 1} → statement M

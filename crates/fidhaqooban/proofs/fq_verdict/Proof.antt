@@ -20,19 +20,19 @@ returns : tie.Need-returns
 unfolding verdictNumber
 returns c = handed (c .answer .result) (c .answer .ok) ∙ c .answer .ensures ∙ sheet-refused _ _ (c .before .before .before .read .ensures) (c .before .if1 .taken) _
 
-verdict-requires : tie.Need-verdict-requires
-verdict-requires c κs = search needs
+assess-requires : tie.Need-assess-requires
+assess-requires c κs = search needs
 
 cast-answer : tie.Need-cast-answer
 cast-answer c = search needs
 
 answer-requires-2 : tie.Need-answer-requires-2
 answer-requires-2 c κs =
-    let passes = c .before .verdict .result .passes in
+    let passes = c .before .assess .result .passes in
     omega (arith, bool-number passes, at-most passes 1)
 
 returns-2 : tie.Need-returns-2
-returns-2 c = handed (c .answer2 .result) (c .answer2 .ok) ∙ c .answer2 .ensures ∙ ap (answerOf _) (bool-number (c .before .before .verdict .result .passes)) ∙ verdict-is _ _ (c .before .before .before .before .before .before .read .ensures) (c .before .before .before .before .if1 .left) _ (c .before .before .verdict .ensures)
+returns-2 c = handed (c .answer2 .result) (c .answer2 .ok) ∙ c .answer2 .ensures ∙ ap (answerOf _) (bool-number (c .before .before .assess .result .passes)) ∙ verdict-is _ _ (c .before .before .before .before .before .before .read .ensures) (c .before .before .before .before .if1 .left) _ (c .before .before .assess .ensures)
 
 pub fq-verdict-spec : {M : Type 1} → statement M
 fq-verdict-spec =
@@ -41,7 +41,7 @@ fq-verdict-spec =
     read-requires
     answer-requires
     returns
-    verdict-requires
+    assess-requires
     cast-answer
     answer-requires-2
     returns-2)

@@ -30,8 +30,8 @@ own-choice-requires c κs = search needs
 
 loop-holds : tie.Need-loop-holds Inv-loop μ-loop
 loop-holds c =
-    let given = c .before .before in
-    let first = fails-at-1 (given .args .table) (given .pre) (ownChoice (given .args .table .records)) in
+    let given = c .before in
+    let first = fails-at-1 (given .args .table) (given .pre) (ownChoice (given .args .table)) in
     let begun : passing (given .args .table) (c .own-choice .result) 1 ≡ false = ap (λ (choice : List ℕ). passing (given .args .table) choice 1) (c .own-choice .ensures) ∙ first in (
       search needs,
       search needs,
@@ -40,12 +40,12 @@ loop-holds c =
 
 passes-requires : tie.Need-passes-requires Inv-loop μ-loop
 passes-requires c κs =
-    (c .before .before .before .pre, c .loop .inv .0)
+    (c .before .before .pre, c .loop .inv .0)
 
 returns : tie.Need-returns Inv-loop μ-loop
 unfolding leastInterval
 returns c =
-    let given = c .before .before .before .before .before in
+    let given = c .before .before .before .before in
     let at = c .before .before .loop in
     let own = c .before .before .before .own-choice in
     sym (first-found (passing (given .args .table) (own .result)) 65535 1 (at .interval) (at .inv .0) (omega arith) (at .inv .2) (sym (c .before .passes .ensures) ∙ c .if1 .taken))
@@ -54,7 +54,7 @@ returns c =
 returns-2 : tie.Need-returns-2 Inv-loop μ-loop
 unfolding leastInterval
 returns-2 c =
-    let given = c .before .before .before .before .before .before in
+    let given = c .before .before .before .before .before in
     let at = c .before .before .before .loop in
     let own = c .before .before .before .before .own-choice in
     let each = passing (given .args .table) (own .result) in
@@ -70,7 +70,7 @@ loop-less c = search needs
 
 loop-again : tie.Need-loop-again Inv-loop μ-loop
 loop-again c =
-    let given = c .before .before .before .before .before .before in
+    let given = c .before .before .before .before .before in
     let at = c .before .before .before .loop in
     let own = c .before .before .before .before .own-choice in
     (search needs, omega arith, fails-more (passing (given .args .table) (own .result)) 1 (at .interval) (at .inv .2) (sym (c .before .before .passes .ensures) ∙ c .before .if1 .left))

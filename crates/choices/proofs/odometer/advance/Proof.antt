@@ -1,15 +1,15 @@
 -- `choices::odometer::advance` meets its contract: no choice passed over passes. Assumes nothing.
 use Prim.Native.Nat.{ℕ, _<_}
 use mathlib.Core.Path.{_≡_, refl, sym, ap, subst, _∙_}
-use mathlib.Core.Bool.{true}
+use mathlib.Core.Bool.{true, false}
 use mathlib.Core.List.{List}
 use lib.ListN.{length}
 use Rattle.analysis.specs.Allowed.{levelsOf}
 use Rattle.analysis.proofs.Choice.{length-levels}
 use Rattle.choices.proofs.Onward.{next-allowed, next-length}
 use Rattle.choices.specs.declared.Found.{Found}
-use Rattle.analysis.specs.Answers.{choiceAnswer}
-use Rattle.analysis.specs.declared.Passing.{Passing}
+use Rattle.analysis.specs.Answers.{choiceAssessment}
+use Rattle.analysis.specs.declared.Assessment.{Assessment}
 use Rattle.sheet.specs.declared.Table.{Table}
 use Rattle.sheet.proofs.Cases.{good-table}
 use Rattle.choices.specs.Choices.{choicesOf, passingOf}
@@ -31,19 +31,19 @@ went : (c : tie.After-next Inv-loop μ-loop) → c .next .result ≡ nextOf (lev
 went c = c .next .ensures ∙ ap (λ (levels : List ℕ). nextOf levels (c .before .loop .choice)) (c .before .before .levels-of .ensures)
 
 -- the table asked about, and the choice it is asked about
-abbrev tableAsked : tie.After-choice-verdict Inv-loop μ-loop → Table
+abbrev tableAsked : tie.After-assess-choice Inv-loop μ-loop → Table
 tableAsked c = c .before .before .before .before .before .before .args .table
 
-abbrev choiceAsked : tie.After-choice-verdict Inv-loop μ-loop → List ℕ
+abbrev choiceAsked : tie.After-assess-choice Inv-loop μ-loop → List ℕ
 choiceAsked c = nextOf (levelsOf (tableAsked c)) (c .before .before .before .before .loop .choice) .choice
 
 -- the verdict asked for is that choice's own
-asked : (c : tie.After-choice-verdict Inv-loop μ-loop) → c .choice-verdict .result .passes ≡ passesWith (tableAsked c) (choiceAsked c)
+asked : (c : tie.After-assess-choice Inv-loop μ-loop) → c .assess-choice .result .passes ≡ passesWith (tableAsked c) (choiceAsked c)
 asked c =
     let given = c .before .before .before .before .before .before in
     let at = c .before .before .before .before .loop in
-    ap (λ (p : Passing). p .passes) (c .choice-verdict .ensures)
-    ∙ ap (λ (f : Found). choiceAnswer (tableAsked c) (f .choice) .passes) (went (c .before .before .before))
+    ap (λ (a : Assessment). a .passes) (c .assess-choice .ensures)
+    ∙ ap (λ (f : Found). choiceAssessment (tableAsked c) (f .choice) false .passes) (went (c .before .before .before))
     ∙ verdict-passes (tableAsked c) (good-start (tableAsked c) (given .args .start) .0 (given .pre) .0) (choiceAsked c) (next-allowed (levelsOf (tableAsked c)) (at .choice) (at .inv .1))
 
 levels-of-requires : tie.Need-levels-of-requires Inv-loop μ-loop
@@ -57,8 +57,8 @@ loop-holds c =
 next-requires : tie.Need-next-requires Inv-loop μ-loop
 next-requires c κs = search needs
 
-choice-verdict-requires : tie.Need-choice-verdict-requires Inv-loop μ-loop
-choice-verdict-requires c κs = search needs
+assess-choice-requires : tie.Need-assess-choice-requires Inv-loop μ-loop
+assess-choice-requires c κs = search needs
 
 returns : tie.Need-returns Inv-loop μ-loop
 unfolding foundIn
@@ -114,7 +114,7 @@ advance-spec =
     levels-of-requires
     loop-holds
     next-requires
-    choice-verdict-requires
+    assess-choice-requires
     returns
     loop-less
     loop-again

@@ -7,16 +7,13 @@ use Rattle.desk.proofs.responses.print.Statement.{statement}
 use Rattle.desk.proofs.responses.print.Tie as tie
 
 abbrev Inv-loop : tie.InvT-loop
-Inv-loop table buffer₀ entries end₀ place₀ buffer end place = 4096 ≡ length buffer
+Inv-loop table entries buffer₀ end₀ place₀ buffer end place = 4096 ≡ length buffer
 
 abbrev μ-loop : tie.MeasureT-loop
-μ-loop table buffer₀ entries end₀ place₀ buffer end place = 8 - place
+μ-loop table entries buffer₀ end₀ place₀ buffer end place = 8 - place
 
 buffer-requires : tie.Need-buffer-requires Inv-loop μ-loop
 buffer-requires c κs = search needs
-
-response-times-requires : tie.Need-response-times-requires Inv-loop μ-loop
-response-times-requires c κs = search needs
 
 interval-line-requires : tie.Need-interval-line-requires Inv-loop μ-loop
 interval-line-requires c κs = search needs
@@ -73,7 +70,6 @@ print-spec =
     Inv-loop
     μ-loop
     buffer-requires
-    response-times-requires
     interval-line-requires
     slice-aggregate-put-line
     put-line-requires
