@@ -44,6 +44,7 @@ static int64_t due(const struct table *table, const struct burden *burden, uint3
 {
     int64_t sum = burden->fixed + (int64_t)arrivals(span, table->interval) * burden->backup;
 
+    sum += (int64_t)arrivals(span, table->round) * (table->round - table->share);
     for (unsigned priority = burden->above + 1; priority <= table->count; priority++) {
         const struct record *record = &table->records[priority];
         if (priority != burden->except)

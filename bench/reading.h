@@ -7,6 +7,7 @@
 
 #define MOST_TASKS 8
 #define HEADER_BYTES 3
+#define SHARED_HEADER_BYTES 7
 #define RECORD_BYTES 9
 
 /* One task; its priority is its index in the table. */
@@ -22,12 +23,17 @@ struct record {
 struct table {
     unsigned count;
     uint32_t interval;
+    uint32_t round;
+    uint32_t share;
     uint8_t priority_at[MOST_TASKS];
     struct record records[MOST_TASKS + 1];
 };
 
 /* Writes a number as two bytes, the first byte highest. */
 void write_number(uint8_t *bytes, uint32_t number);
+
+/* How many bytes the header of a table's sheet has. */
+size_t header_bytes(const struct table *table);
 
 /* Reads a whole sheet, and answers the first rule that it breaks, or 0. */
 uint8_t read_sheet(const uint8_t *sheet, size_t len, struct table *table);

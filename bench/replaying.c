@@ -8,6 +8,7 @@
 #include <string.h>
 
 #define FAULT_BIT 128
+#define REFUSED_SHARED 19
 #define REFUSED_ROOM 11
 #define REFUSED_LENGTH 14
 #define REFUSED_BIT 15
@@ -120,6 +121,8 @@ int64_t climbing_replay(const uint8_t *sheet, size_t len, const uint8_t *log, si
     uint64_t replayed[COUNTS] = {0};
     int refusal = read_sheet(sheet, len, &table);
 
+    if (refusal == 0 && table.share < table.round)
+        refusal = REFUSED_SHARED;
     if (refusal == 0)
         refusal = replay(&table, log, log_len, replayed);
     if (refusal == 0 && counts_len < COUNTS)

@@ -26,6 +26,7 @@ static ucontext_t caller, callee;
 static void nothing(void) {}
 static void judge(void) { fq_judge(sheet, length); }
 static void write(void) { fq_write(numbers.count, numbers.interval, numbers.fields, 48, output, sizeof output); }
+static void write_shared(void) { fq_write_shared(numbers.count, numbers.interval, 9, 8, numbers.fields, 48, output, sizeof output); }
 static void rewrite(void) { fq_rewrite(sheet, length, output, sizeof output); }
 static void record(void) { fq_record(sheet, length, 0); }
 static void response(void) { fq_response(sheet, length, 0); }
@@ -60,7 +61,7 @@ int main(void)
         const char *name;
         void (*call)(void);
     } calls[] = {
-        {"fq_judge", judge}, {"fq_write", write}, {"fq_rewrite", rewrite}, {"fq_record", record},
+        {"fq_judge", judge}, {"fq_write", write}, {"fq_write_shared", write_shared}, {"fq_rewrite", rewrite}, {"fq_record", record},
         {"fq_response", response}, {"fq_slack", slack}, {"fq_verdict", verdict},
         {"fq_least_interval", least_interval}, {"fq_next", next}, {"fq_list", list}, {"fq_list, no room", short_list}, {"fq_replay", replay},
     };

@@ -1,7 +1,8 @@
 /*
  * Fidhaqooban: timing sheets judged by response-time equations with faults.
  *
- * A sheet is the bytes of docs/FORMAT.md: a header of 3 bytes and 9 bytes for each of 1 to 8 tasks.
+ * A sheet is the bytes of docs/FORMAT.md: a header of 3 bytes, or of 7 where the processor is shared, and 9 bytes for
+ * each of 1 to 8 tasks.
  * Every function answers any bytes and any numbers, and always returns. Each is proved to give the answer
  * that its comment says (docs/PROMISES.md), for a caller who keeps to the three points below, which
  * nothing proves:
@@ -33,18 +34,19 @@ extern "C" {
 #endif
 
 /* The version of this header and library; `./desk --version` prints the same. */
-#define FQ_VERSION "1.5.0"
+#define FQ_VERSION "1.6.0"
 
 /*
  * What a refused call gives, in the order in which the rules are tried: the number of the first rule broken,
  * with a minus sign where the answer is an int64_t.
  */
 enum fq_refusal {
-    FQ_SHORT_SHEET = 1,         /* the sheet has fewer than 3 bytes */
+    FQ_SHORT_SHEET = 1,         /* the sheet has fewer than 3 bytes, or, tried after 3, fewer than 7 in the new edition */
     FQ_BAD_COUNT = 2,           /* the count is 0 or above 8 */
-    FQ_RESERVED_BIT = 3,        /* a reserved bit is set */
-    FQ_BAD_LENGTH = 4,          /* the length is not 3 + 9 x count */
+    FQ_RESERVED_BITS = 3,       /* the reserved bits are above 1, the number of the new edition */
+    FQ_BAD_LENGTH = 4,          /* the length is not 3 + 9 x count, or 7 + 9 x count in the new edition */
     FQ_NO_INTERVAL = 5,         /* the fault interval is 0 */
+    FQ_BAD_SHARE = 18,          /* the share is 0 or not below the round, in the new edition */
     FQ_BAD_COST = 6,            /* a cost is 0 or above its deadline */
     FQ_BAD_BACKUP = 7,          /* a backup is 0 or above its deadline */
     FQ_BAD_DEADLINE = 8,        /* a deadline is above its period */
@@ -52,6 +54,7 @@ enum fq_refusal {
     FQ_BAD_FAULT_PRIORITY = 10, /* a fault priority is outside 1 to the record's own priority */
     FQ_BAD_PLACE = 12,          /* the record place asked for is not below the count */
     FQ_BAD_CHOICE = 13,         /* the choice to go on after is neither 0 nor allowed */
+    FQ_SHARED_PROCESSOR = 19,   /* a log is replayed for the whole processor only */
     FQ_ODD_LOG = 14,            /* a log has an odd number of bytes */
     FQ_STRANGE_BIT = 15,        /* a tick has a release bit above the count, or one of the seven other bits set */
     FQ_EARLY_RELEASE = 16,      /* a release sooner than its period after that task's last */
@@ -62,8 +65,8 @@ enum fq_refusal {
 /* More stack than any call needs, in bytes (bench/run measures it). */
 #define FQ_STACK_BYTES 4096
 
-/* The longest sheet, eight tasks, and the longest list, all 8! choices of such a sheet, in bytes. */
-#define FQ_SHEET_BYTES 75
+/* The longest sheet, eight tasks on a shared processor, and the longest list, all 8! choices of such a sheet, in bytes. */
+#define FQ_SHEET_BYTES 79
 #define FQ_LIST_BYTES 161280
 
 /* The counts of fq_replay: ticks of the first three kinds, which are all ticks, and jobs; those released are finished, missed or unfinished. */
@@ -81,7 +84,7 @@ enum fq_count {
 /* How many numbers fq_write takes for each record: cost, backup, deadline, period, priority, fault priority. */
 #define FQ_RECORD_NUMBERS 6
 
-/* 0 where the sheet is good, or the refusal (1 to 10; no minus sign). */
+/* 0 where the sheet is good, or the refusal (1 to 10 or 18; no minus sign). */
 uint8_t fq_judge(const uint8_t *sheet, size_t len);
 
 /*
@@ -95,14 +98,22 @@ int64_t fq_write(uint8_t count, uint16_t interval, const uint16_t *fields, size_
                  uint8_t *out, size_t out_len);
 
 /*
+ * The same for a processor that is shared: of each `round` ticks `share` are ours. A round and a share of 1 stand for
+ * the whole processor, and the answer is that of fq_write.
+ * Answer: how many bytes were written (7 + 9 x count), or minus the refusal (2, 5, 18, 6 to 11).
+ */
+int64_t fq_write_shared(uint8_t count, uint16_t interval, uint16_t round, uint16_t share, const uint16_t *fields,
+                        size_t fields_len, uint8_t *out, size_t out_len);
+
+/*
  * Reads a sheet and writes it again; a good sheet comes back as the same bytes.
- * Answer: how many bytes were written (len), or minus the refusal (1 to 11).
+ * Answer: how many bytes were written (len), or minus the refusal (1 to 11 or 18).
  */
 int64_t fq_rewrite(const uint8_t *sheet, size_t len, uint8_t *out, size_t out_len);
 
 /*
  * Where in the sheet the nine bytes of the record at a place (from 0) start.
- * Answer: 3 + 9 x place, or minus the refusal (1 to 10, 12).
+ * Answer: 3 + 9 x place, or 7 + 9 x place in the new edition, or minus the refusal (1 to 10, 12 or 18).
  */
 int64_t fq_record(const uint8_t *sheet, size_t len, size_t place);
 
@@ -110,7 +121,7 @@ int64_t fq_record(const uint8_t *sheet, size_t len, size_t place);
  * The worst-case response time of the record at a place (from 0), under the sheet's own interval and
  * fault priorities.
  * Answer: the least time that the equations allow within the deadline, 0 where the task is late, or minus
- * the refusal (1 to 10, 12).
+ * the refusal (1 to 10, 12 or 18).
  */
 int64_t fq_response(const uint8_t *sheet, size_t len, size_t place);
 
@@ -118,17 +129,17 @@ int64_t fq_response(const uint8_t *sheet, size_t len, size_t place);
  * The slack of the record at a place (from 0): its deadline less its worst-case response time, which is
  * searched for up to 65535. It is negative where the task is late and 0 at an exact fit.
  * Answer: 1 with the slack in out[0]; 0 where there is no response time up to 65535, so no figure, and the
- * task is late; or minus the refusal (1 to 10, 12, and last 11 where out_len is 0). `out` changes in the first
+ * task is late; or minus the refusal (1 to 10, 12 or 18, and last 11 where out_len is 0). `out` changes in the first
  * case only. `out_len` is how many numbers have room.
  */
 int64_t fq_slack(const uint8_t *sheet, size_t len, size_t place, int32_t *out, size_t out_len);
 
-/* 1 where the sheet passes (no task is late), 0 where it does not, or minus the refusal (1 to 10). */
+/* 1 where the sheet passes (no task is late), 0 where it does not, or minus the refusal (1 to 10 or 18). */
 int64_t fq_verdict(const uint8_t *sheet, size_t len);
 
 /*
  * The least fault interval, 1 to 65535, at which the sheet passes with its own fault priorities.
- * Answer: the interval, 0 where there is none, or minus the refusal (1 to 10).
+ * Answer: the interval, 0 where there is none, or minus the refusal (1 to 10 or 18).
  */
 int64_t fq_least_interval(const uint8_t *sheet, size_t len);
 
@@ -136,14 +147,14 @@ int64_t fq_least_interval(const uint8_t *sheet, size_t len);
  * The next choice of fault priorities under which the sheet passes, after any allowed choice. A choice is a
  * number of 32 bits: four bits for each record in record order, the first record's highest, the rest zero;
  * with three records, fault priorities 3, 2 and 1 are 0x32100000. 0 stands before the first choice.
- * Answer: the choice, 0 at the end, or minus the refusal (1 to 10, 13).
+ * Answer: the choice, 0 at the end, or minus the refusal (1 to 10, 13 or 18).
  */
 int64_t fq_next(const uint8_t *sheet, size_t len, uint32_t after);
 
 /*
  * Writes every choice under which the sheet passes, ascending, four bytes each: the number of fq_next, its
  * first byte highest.
- * Answer: how many entries were written, or minus the refusal (1 to 11).
+ * Answer: how many entries were written, or minus the refusal (1 to 11 or 18).
  */
 int64_t fq_list(const uint8_t *sheet, size_t len, uint8_t *out, size_t out_len);
 
@@ -152,7 +163,7 @@ int64_t fq_list(const uint8_t *sheet, size_t len, uint8_t *out, size_t out_len);
  * as the most significant bit, then the fault bit as the most significant and seven zeros. docs/REPLAY.md
  * follows a log tick by tick. The log is judged whole, rules 14 to 17, before anything is counted.
  * Answer: 0 with FQ_COUNTS numbers in `counts`, in the order of enum fq_count, or minus the refusal (1 to 10,
- * 14 to 17, and last 11 where there is no room for them). `counts_len` is how many numbers have room; those
+ * 18, 19, 14 to 17, and last 11 where there is no room for them). `counts_len` is how many numbers have room; those
  * after the first FQ_COUNTS are not touched. A count is taken modulo 2^64, which no log below 2^61 bytes reaches.
  */
 int64_t fq_replay(const uint8_t *sheet, size_t len, const uint8_t *log, size_t log_len, uint64_t *counts,

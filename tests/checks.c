@@ -22,10 +22,11 @@ struct call {
     const struct log *log;
 };
 
-/* Prints what fq_write was given: the count, the interval and the numbers that are there, in hexadecimal. */
+/* Prints what was given to be written: count, interval, round, share and the numbers that are there, in hexadecimal. */
 static void print_writing(const struct writing *writing)
 {
-    printf("table %02x %04x", (unsigned)writing->count, (unsigned)writing->interval);
+    printf("table %02x %04x %04x %04x", (unsigned)writing->count, (unsigned)writing->interval, (unsigned)writing->round,
+           (unsigned)writing->share);
     for (size_t index = 0; index < writing->given; index++) {
         printf(" %04x", (unsigned)writing->numbers[index]);
     }
@@ -135,6 +136,22 @@ int64_t check_write(struct comparison *comparison, const struct writing *writing
                             comparison->lent_to_library + MARGIN, out_len);
     call.plain = plain_write(writing->count, writing->interval, writing->numbers, writing->given,
                              comparison->lent_to_plain + MARGIN, out_len);
+    settle_lent(comparison, &call, out_len);
+    settle(comparison, &call, "numbers",
+           memcmp(given.numbers, writing->numbers, sizeof given.numbers) == 0);
+    return call.plain;
+}
+
+/* Compares the writing of a table with its share, in the same way. */
+int64_t check_write_shared(struct comparison *comparison, const struct writing *writing, size_t out_len)
+{
+    struct writing given = *writing;
+    struct call call = {.function = "fq_write_shared", .argument = out_len, .writing = writing};
+    lend(comparison, out_len);
+    call.library = fq_write_shared(given.count, given.interval, given.round, given.share, given.numbers, given.given,
+                                   comparison->lent_to_library + MARGIN, out_len);
+    call.plain = plain_write_shared(writing->count, writing->interval, writing->round, writing->share, writing->numbers,
+                                    writing->given, comparison->lent_to_plain + MARGIN, out_len);
     settle_lent(comparison, &call, out_len);
     settle(comparison, &call, "numbers",
            memcmp(given.numbers, writing->numbers, sizeof given.numbers) == 0);

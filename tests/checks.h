@@ -41,10 +41,12 @@ struct comparison {
     uint8_t lent_to_plain[ARENA_ROOM];
 };
 
-/* What fq_write is given, apart from its output. */
+/* What fq_write_shared is given, and all but the share fq_write, apart from the output. */
 struct writing {
     uint8_t count;
     uint16_t interval;
+    uint16_t round;
+    uint16_t share;
     size_t given;
     uint16_t numbers[MOST_GIVEN_NUMBERS];
 };
@@ -58,6 +60,7 @@ void lay_sheet(struct comparison *comparison, const uint8_t *bytes, size_t lengt
 /* The checks of the functions; each gives the plain desk's answer. */
 uint8_t check_judge(struct comparison *comparison);
 int64_t check_write(struct comparison *comparison, const struct writing *writing, size_t out_len);
+int64_t check_write_shared(struct comparison *comparison, const struct writing *writing, size_t out_len);
 int64_t check_rewrite(struct comparison *comparison, size_t out_len);
 int64_t check_record(struct comparison *comparison, size_t place);
 int64_t check_response(struct comparison *comparison, size_t place);

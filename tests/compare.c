@@ -19,8 +19,9 @@ enum {
     CODEC_SHEETS_FOR_ANALYSIS_SHEET = 20,
     /* One log is replayed for so many. */
     CODEC_SHEETS_FOR_LOG = 4,
-    /* The first refusal of a log. */
+    /* The first refusal of a log, and the one after the others that only a sheet can have. */
     FIRST_OF_LOGS = 14,
+    BAD_SHARE = 18,
     NO_DIFFERENCE = 0,
     DIFFERENT_OR_NOTHING_RUN = 1,
     BAD_ARGUMENTS = 2
@@ -49,18 +50,24 @@ static bool read_number(const char *text, uint64_t *number)
     return isdigit((unsigned char)text[0]) && *end == '\0' && errno == 0;
 }
 
+/* Prints how often each answer was given, those that never were left out. */
+static void print_answers(const char *name, const uint64_t *given, unsigned answers)
+{
+    printf("%s:", name);
+    for (unsigned answer = 0; answer < answers; answer++) {
+        if (given[answer] > 0) {
+            printf(" %u: %" PRIu64, answer, given[answer]);
+        }
+    }
+    puts("");
+}
+
 /* Prints the mix of sheets and the closing line. */
 static void print_tally(const struct comparison *comparison, const struct tally *tally)
 {
-    printf("codec sheets by answer of fq_judge:");
-    for (unsigned answer = 0; answer < JUDGEMENTS; answer++) {
-        printf(" %u: %" PRIu64 "%s", answer, tally->judged[answer], answer + 1 < JUDGEMENTS ? "," : "\n");
-    }
-    printf("logs by answer of fq_replay: 0: %" PRIu64, tally->replayed[0]);
-    for (unsigned refusal = FIRST_OF_LOGS; refusal < REPLAY_JUDGEMENTS; refusal++) {
-        printf(", %u: %" PRIu64, refusal, tally->replayed[refusal]);
-    }
-    printf("\nslacks with a figure: %" PRIu64 ", least intervals of none: %" PRIu64 ", listed choices: %" PRIu64 "\n",
+    print_answers("codec sheets by answer of fq_judge", tally->judged, JUDGEMENTS);
+    print_answers("logs by answer of fq_replay", tally->replayed, REPLAY_JUDGEMENTS);
+    printf("slacks with a figure: %" PRIu64 ", least intervals of none: %" PRIu64 ", listed choices: %" PRIu64 "\n",
            tally->figures, tally->least_intervals_of_none, tally->listed_choices);
     printf("%" PRIu64 " codec sheets, %" PRIu64 " analysis sheets (%" PRIu64 " pass, %" PRIu64 " do not), ",
            tally->codec_sheets, tally->analysis_sheets, tally->passing, tally->late);
@@ -73,11 +80,11 @@ static void print_tally(const struct comparison *comparison, const struct tally 
 static bool every_kind_run(const struct tally *tally)
 {
     for (unsigned refusal = FIRST_OF_LOGS; refusal < REPLAY_JUDGEMENTS; refusal++) {
-        if (tally->replayed[refusal] == 0) {
+        if (refusal != BAD_SHARE && tally->replayed[refusal] == 0) {
             return false;
         }
     }
-    return tally->judged[0] > 0 && tally->judged[0] < tally->codec_sheets && tally->passing > 0 &&
+    return tally->judged[0] > 0 && tally->judged[0] < tally->codec_sheets && tally->judged[BAD_SHARE] > 0 && tally->passing > 0 &&
            tally->late > 0 && tally->least_intervals > 0 && tally->lists > tally->lists_of_eight &&
            tally->lists_of_eight > 0 && tally->replayed[0] > 0;
 }

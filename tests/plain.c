@@ -64,6 +64,12 @@ static uint64_t cost_above(const struct table *table, uint64_t level, uint64_t l
     return sum;
 }
 
+/* What the supplier's code takes within a length: as a task above all others would. */
+static uint64_t supplier_cost(const struct table *table, uint64_t length)
+{
+    return up(length, table->round) * (table->round - table->share);
+}
+
 /* What a length has to be at least, of a record. */
 typedef uint64_t needed_length(const struct table *table, size_t place, uint64_t length);
 
@@ -83,14 +89,14 @@ static uint64_t struck_elsewhere(const struct table *table, size_t place, uint64
 {
     const struct record *own = &table->records[place];
     return own->cost + cost_above(table, own->priority, length) +
-           up(length, table->interval) * largest_backup(table, own->priority, place);
+           up(length, table->interval) * largest_backup(table, own->priority, place) + supplier_cost(table, length);
 }
 
 /* What a record needs when it is struck itself. */
 static uint64_t struck_itself(const struct table *table, size_t place, uint64_t length)
 {
     const struct record *own = &table->records[place];
-    uint64_t needed = own->cost + own->backup;
+    uint64_t needed = own->cost + own->backup + supplier_cost(table, length);
     for (size_t other = 0; other < table->count; other++) {
         const struct record *task = &table->records[other];
         if (task->priority > own->priority) {
@@ -179,18 +185,18 @@ static bool allowed_after(const struct table *table, uint32_t after)
     return true;
 }
 
-/* The refusal of a sheet by rules 1 to 10, or 0. */
+/* The refusal of a sheet, or 0. */
 uint8_t plain_judge(const uint8_t *sheet, size_t len)
 {
     struct table table;
     return (uint8_t)read_sheet(sheet, len, &table);
 }
 
-/* Judges the table of a count, an interval and numbers, and writes it. */
-int64_t plain_write(uint8_t count, uint16_t interval, const uint16_t *fields, size_t fields_len,
-                    uint8_t *out, size_t out_len)
+/* Judges the table of a header and numbers, and writes it. */
+int64_t plain_write_shared(uint8_t count, uint16_t interval, uint16_t round, uint16_t share, const uint16_t *fields,
+                           size_t fields_len, uint8_t *out, size_t out_len)
 {
-    struct table table = {.count = count, .interval = interval};
+    struct table table = {.count = count, .interval = interval, .round = round, .share = share};
     for (size_t place = 0; place < count && place < MOST_TASKS; place++) {
         struct record *own = &table.records[place];
         size_t start = RECORD_NUMBERS * place;
@@ -208,6 +214,13 @@ int64_t plain_write(uint8_t count, uint16_t interval, const uint16_t *fields, si
     return write_table(&table, out, out_len);
 }
 
+/* The same for the whole processor. */
+int64_t plain_write(uint8_t count, uint16_t interval, const uint16_t *fields, size_t fields_len,
+                    uint8_t *out, size_t out_len)
+{
+    return plain_write_shared(count, interval, 1, 1, fields, fields_len, out, out_len);
+}
+
 /* Reads a sheet and writes what was read. */
 int64_t plain_rewrite(const uint8_t *sheet, size_t len, uint8_t *out, size_t out_len)
 {
@@ -221,7 +234,7 @@ int64_t plain_record(const uint8_t *sheet, size_t len, size_t place)
 {
     struct table table;
     int64_t refusal = refused_at(sheet, len, place, &table);
-    return refusal != 0 ? refusal : (int64_t)(HEADER_BYTES + RECORD_BYTES * place);
+    return refusal != 0 ? refusal : (int64_t)(header_bytes(&table) + RECORD_BYTES * place);
 }
 
 /* The response time of the record at a place. */

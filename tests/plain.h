@@ -12,6 +12,8 @@
 uint8_t plain_judge(const uint8_t *sheet, size_t len);
 int64_t plain_write(uint8_t count, uint16_t interval, const uint16_t *fields, size_t fields_len,
                     uint8_t *out, size_t out_len);
+int64_t plain_write_shared(uint8_t count, uint16_t interval, uint16_t round, uint16_t share, const uint16_t *fields,
+                           size_t fields_len, uint8_t *out, size_t out_len);
 int64_t plain_rewrite(const uint8_t *sheet, size_t len, uint8_t *out, size_t out_len);
 int64_t plain_record(const uint8_t *sheet, size_t len, size_t place);
 int64_t plain_response(const uint8_t *sheet, size_t len, size_t place);

@@ -173,6 +173,9 @@ int64_t plain_replay(const uint8_t *sheet, size_t len, const uint8_t *log, size_
 {
     struct table table;
     int64_t refusal = refused(sheet, len, &table);
+    if (refusal == 0 && !is_whole(&table)) {
+        refusal = -SHARED_PROCESSOR;
+    }
     if (refusal == 0) {
         refusal = -(int64_t)judge_log(&table, log, log_len);
     }

@@ -54,7 +54,25 @@ static enum refusal judge_record(const struct table *table, size_t place)
     return GOOD;
 }
 
-/* The refusal of a table by rules 2 and 5 to 10. */
+/* Whether a table has the whole processor. */
+bool is_whole(const struct table *table)
+{
+    return table->round == 1 && table->share == 1;
+}
+
+/* How many bytes the header of a table's sheet has. */
+size_t header_bytes(const struct table *table)
+{
+    return is_whole(table) ? HEADER_BYTES : SHARED_HEADER_BYTES;
+}
+
+/* Whether a share is zero or not below its round. */
+static bool is_bad_share(const struct table *table)
+{
+    return table->share == 0 || table->share >= table->round;
+}
+
+/* The refusal of a table by rules 2, 5, 18 and 6 to 10. */
 enum refusal judge_table(const struct table *table)
 {
     if (table->count == 0 || table->count > MOST_TASKS) {
@@ -62,6 +80,9 @@ enum refusal judge_table(const struct table *table)
     }
     if (table->interval == 0) {
         return NO_INTERVAL;
+    }
+    if (!is_whole(table) && is_bad_share(table)) {
+        return BAD_SHARE;
     }
     for (size_t place = 0; place < table->count; place++) {
         enum refusal refusal = judge_record(table, place);
@@ -86,7 +107,37 @@ static void take_records(const uint8_t *sheet, size_t *position, struct table *t
     }
 }
 
-/* Reads a sheet into a table, or gives its refusal by rules 1 to 10. */
+/* Takes the rest of a sheet of the old edition, which has the whole processor. */
+static enum refusal read_whole(const uint8_t *sheet, size_t len, size_t position, struct table *table)
+{
+    if (len != HEADER_BYTES + RECORD_BYTES * table->count) {
+        return BAD_LENGTH;
+    }
+    table->round = 1;
+    table->share = 1;
+    take_records(sheet, &position, table);
+    return judge_table(table);
+}
+
+/* Takes the rest of a sheet of the new edition, in which no share may be the whole. */
+static enum refusal read_shared(const uint8_t *sheet, size_t len, size_t position, struct table *table)
+{
+    if (len < SHARED_HEADER_BYTES) {
+        return TOO_SHORT;
+    }
+    if (len != SHARED_HEADER_BYTES + RECORD_BYTES * table->count) {
+        return BAD_LENGTH;
+    }
+    table->round = take_bits(sheet, &position, 16);
+    table->share = take_bits(sheet, &position, 16);
+    if (table->interval != 0 && is_bad_share(table)) {
+        return BAD_SHARE;
+    }
+    take_records(sheet, &position, table);
+    return judge_table(table);
+}
+
+/* Reads a sheet into a table, or gives its refusal by rules 1 to 10 and 18. */
 enum refusal read_sheet(const uint8_t *sheet, size_t len, struct table *table)
 {
     if (len < HEADER_BYTES) {
@@ -99,14 +150,10 @@ enum refusal read_sheet(const uint8_t *sheet, size_t len, struct table *table)
     if (table->count == 0 || table->count > MOST_TASKS) {
         return BAD_COUNT;
     }
-    if (reserved != 0) {
-        return RESERVED_BIT;
+    if (reserved > 1) {
+        return RESERVED_BITS;
     }
-    if (len != HEADER_BYTES + RECORD_BYTES * table->count) {
-        return BAD_LENGTH;
-    }
-    take_records(sheet, &position, table);
-    return judge_table(table);
+    return reserved == 0 ? read_whole(sheet, len, position, table) : read_shared(sheet, len, position, table);
 }
 
 /* Reads a sheet into a table: 0, or minus the refusal. */
@@ -128,14 +175,18 @@ int64_t refused_at(const uint8_t *sheet, size_t len, size_t place, struct table 
 /* Writes a good table where there is room for it; the answer is that of plain_write and plain_rewrite. */
 int64_t write_table(const struct table *table, uint8_t *out, size_t out_len)
 {
-    size_t needed = HEADER_BYTES + RECORD_BYTES * table->count;
+    size_t needed = header_bytes(table) + RECORD_BYTES * table->count;
     if (out_len < needed) {
         return -OUTPUT_TOO_SHORT;
     }
     size_t position = 0;
     put_bits(out, &position, 4, table->count);
-    put_bits(out, &position, 4, 0);
+    put_bits(out, &position, 4, is_whole(table) ? 0 : 1);
     put_bits(out, &position, 16, table->interval);
+    if (!is_whole(table)) {
+        put_bits(out, &position, 16, table->round);
+        put_bits(out, &position, 16, table->share);
+    }
     for (size_t place = 0; place < table->count; place++) {
         const struct record *own = &table->records[place];
         put_bits(out, &position, 16, own->cost);

@@ -4,16 +4,17 @@
 #ifndef PLAIN_SHEET_H
 #define PLAIN_SHEET_H
 
+#include <stdbool.h>
 #include <stddef.h>
 #include <stdint.h>
 
-enum { MOST_TASKS = 8, HEADER_BYTES = 3, RECORD_BYTES = 9 };
+enum { MOST_TASKS = 8, HEADER_BYTES = 3, SHARED_HEADER_BYTES = 7, RECORD_BYTES = 9 };
 
 enum refusal {
     GOOD = 0,
     TOO_SHORT = 1,
     BAD_COUNT = 2,
-    RESERVED_BIT = 3,
+    RESERVED_BITS = 3,
     BAD_LENGTH = 4,
     NO_INTERVAL = 5,
     BAD_COST = 6,
@@ -27,7 +28,9 @@ enum refusal {
     ODD_LOG = 14,
     STRANGE_BIT = 15,
     EARLY_RELEASE = 16,
-    EARLY_FAULT = 17
+    EARLY_FAULT = 17,
+    BAD_SHARE = 18,
+    SHARED_PROCESSOR = 19
 };
 
 /* One task as its record gives it. */
@@ -44,16 +47,24 @@ struct record {
 struct table {
     uint64_t count;
     uint64_t interval;
+    uint64_t round;
+    uint64_t share;
     struct record records[MOST_TASKS];
 };
 
 /* Puts a value of so many bits at the position, most significant first, and moves the position past it. */
 void put_bits(uint8_t *bytes, size_t *position, unsigned width, uint64_t value);
 
-/* The refusal of a table by rules 2 and 5 to 10. */
+/* Whether a table has the whole processor. */
+bool is_whole(const struct table *table);
+
+/* How many bytes the header of a table's sheet has. */
+size_t header_bytes(const struct table *table);
+
+/* The refusal of a table by rules 2, 5, 18 and 6 to 10. */
 enum refusal judge_table(const struct table *table);
 
-/* Reads a sheet into a table, or gives its refusal by rules 1 to 10. */
+/* Reads a sheet into a table, or gives its refusal by rules 1 to 10 and 18. */
 enum refusal read_sheet(const uint8_t *sheet, size_t len, struct table *table);
 
 /* Writes a good table where there is room for it; the answer is that of plain_write and plain_rewrite. */

@@ -8,6 +8,7 @@
 
 enum {
     HEADER_BYTES = 3,
+    SHARED_HEADER_BYTES = 7,
     RECORD_BYTES = 9,
     ENTRY_BYTES = 4,
     DAMAGES = 16,
@@ -89,10 +90,10 @@ static void check_cuts(struct comparison *comparison, const struct sheet *sheet)
     }
 }
 
-/* What fq_write is given to write a draft; the numbers past those given are random. */
+/* What fq_write_shared is given to write a draft; the numbers past those given are random. */
 static struct writing writing_of(struct generator *generator, const struct draft *draft)
 {
-    struct writing writing = {.count = (uint8_t)draft->count, .interval = draft->interval};
+    struct writing writing = {(uint8_t)draft->count, draft->interval, draft->round, draft->share, 0, {0}};
     writing.given = NUMBERS * draft->tasks;
     memcpy(writing.numbers, draft->numbers, writing.given * sizeof writing.numbers[0]);
     for (size_t index = writing.given; index < MOST_GIVEN_NUMBERS; index++) {
@@ -101,13 +102,13 @@ static struct writing writing_of(struct generator *generator, const struct draft
     return writing;
 }
 
-/* Changes, in half of the cases, what fq_write is given: each way in which it may differ from a sheet. */
+/* Changes, in half of the cases, what is given: each way in which it may differ from a sheet. */
 static void change_writing(struct generator *generator, struct writing *writing)
 {
     size_t record = random_below(generator, writing->given / NUMBERS);
     size_t number = random_below(generator, 2) == 0 ? PRIORITY : FAULT_PRIORITY;
     uint16_t *priority = &writing->numbers[NUMBERS * record + number];
-    switch (random_below(generator, 12)) {
+    switch (random_below(generator, 16)) {
     case 0:
         writing->given = random_below(generator, writing->given);
         break;
@@ -126,6 +127,13 @@ static void change_writing(struct generator *generator, struct writing *writing)
     case 5:
         writing->interval = 0;
         break;
+    case 6:
+        writing->share = writing->round;
+        break;
+    case 7:
+        writing->round = (uint16_t)random_below(generator, 4);
+        writing->share = (uint16_t)random_below(generator, 4);
+        break;
     default:
         break;
     }
@@ -142,6 +150,12 @@ static void check_writes(struct comparison *comparison, const struct draft *draf
     check_write(comparison, &writing, needed - 1);
     check_write(comparison, &writing, needed + 1 + random_below(generator, MARGIN));
     check_write(comparison, &writing, 0);
+    needed += SHARED_HEADER_BYTES - HEADER_BYTES;
+    check_write_shared(comparison, &writing, needed);
+    check_write_shared(comparison, &writing, needed - 1);
+    check_write_shared(comparison, &writing, needed - 4);
+    check_write_shared(comparison, &writing, needed - 5);
+    check_write_shared(comparison, &writing, needed + 1 + random_below(generator, MARGIN));
 }
 
 /* Damages a sheet in the way whose turn it is, then reads it, writes it and, sometimes, cuts it short. */
@@ -359,6 +373,28 @@ void replay_round(struct comparison *comparison, struct tally *tally, uint64_t r
     tally->replayed[-answer]++;
 }
 
+/* Judges and rewrites a good sheet's bytes, repeated, at every length from 0 to one past the longest, in both editions and at every count. */
+static void check_lengths(struct comparison *comparison)
+{
+    static const uint8_t header[] = {0x00, 0x00, 0x64, 0x00, 0x14, 0x00, 0x13};
+    uint8_t bytes[FQ_SHEET_BYTES + 1];
+    for (unsigned first = 0; first < 256; first++) {
+        size_t start = first % 16 == 1 ? SHARED_HEADER_BYTES : HEADER_BYTES;
+        memset(bytes, 0, sizeof bytes);
+        memcpy(bytes, header, start);
+        bytes[0] = (uint8_t)first;
+        for (unsigned place = 0; place < MOST_TASKS; place++) {
+            const uint8_t record[] = {0x00, 0x01, 0x00, 0x02, 0x00, 0x50, 0x00, 0x60, (uint8_t)(0x11 * (place + 1))};
+            memcpy(bytes + start + RECORD_BYTES * place, record, sizeof record);
+        }
+        for (size_t length = 0; length <= sizeof bytes; length++) {
+            lay_sheet(comparison, bytes, length);
+            check_judge(comparison);
+            check_rewrite(comparison, length);
+        }
+    }
+}
+
 /*
  * One task of cost 1, deadline and period 65,535. With a backup of 65,534 it ends at 65,535 exactly, which a second
  * fault within that time would spoil, so only the interval 65,535 passes; with a backup of 65,535 none does. Plain
@@ -373,4 +409,5 @@ void edge_round(struct comparison *comparison)
     check_interval(comparison, HIGHEST);
     lay_sheet(comparison, none, sizeof none);
     check_interval(comparison, 0);
+    check_lengths(comparison);
 }

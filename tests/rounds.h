@@ -7,7 +7,7 @@
 
 #include "checks.h"
 
-enum { JUDGEMENTS = 11, REPLAY_JUDGEMENTS = 18 };
+enum { JUDGEMENTS = 19, REPLAY_JUDGEMENTS = 20 };
 
 /* What was run so far, by kind. */
 struct tally {
@@ -26,7 +26,7 @@ struct tally {
     uint64_t replayed[REPLAY_JUDGEMENTS];
 };
 
-/* Checks the least intervals at the far end, which random sheets do not reach. */
+/* Checks the least intervals at the far end, which random sheets do not reach, and sheets of every length. */
 void edge_round(struct comparison *comparison);
 
 /* Runs one codec round. */

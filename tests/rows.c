@@ -137,6 +137,7 @@ static const struct kind {
 } KINDS[] = {
     {"ask-01-replay.txt", 2, answer_replay},
     {"ask-03-second-job.txt", 1, answer_slack},
+    {"ask-06-share.txt", 1, answer_slack},
 };
 
 /* The kind of a file. */

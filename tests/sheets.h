@@ -5,6 +5,7 @@
 #ifndef SHEETS_H
 #define SHEETS_H
 
+#include <stdbool.h>
 #include <stddef.h>
 #include <stdint.h>
 
@@ -30,12 +31,15 @@ struct generator {
     uint64_t state;
 };
 
-/* A sheet before it is packed: its records, and a header that need not be true to them. */
+/* A sheet before it is packed: its records, and a header that need not be true to them; round and share are packed if it is shared. */
 struct draft {
     unsigned tasks;
     unsigned count;
     unsigned reserved;
     uint16_t interval;
+    bool is_shared;
+    uint16_t round;
+    uint16_t share;
     uint16_t numbers[MOST_TASKS][NUMBERS];
 };
 

@@ -13,7 +13,7 @@ use Rattle.analysis.specs.Rounding.{up}
 use Rattle.analysis.specs.Totals.{sumBelow}
 use Rattle.analysis.specs.Tasks.{tasksOf}
 use Rattle.analysis.specs.Backups.{everyone, others, backupOf, largestBackup, backupElsewhere, backupFromFault}
-use Rattle.analysis.specs.Equations.{isBetween, struckElsewhere, struckItself}
+use Rattle.analysis.specs.Equations.{supplierOf, isBetween, struckElsewhere, struckItself}
 use Rattle.analysis.specs.Search.{leastWithin}
 use Rattle.analysis.specs.Response.{timeElsewhere, timeItself, responseWithin, responseTime, isLate, late, passes}
 use Rattle.analysis.specs.Answers.{entryFrom, entryOf}
@@ -40,7 +40,7 @@ module _ (t : Table) (interval : ℕ) (c d : List ℕ) (same : (k : ℕ) → k <
   module _ (limit i : ℕ) where
     elsewhere-same : timeElsewhere limit (tasksOf t interval c) i ≡ timeElsewhere limit (tasksOf t interval d) i
     unfolding timeElsewhere struckElsewhere backupElsewhere
-    elsewhere-same = ap (λ (f : ℕ → ℕ). leastWithin f 1 limit) (fun-ext (λ L. ap (λ (M : ℕ). recordAt (t .records) i .cost + above L + up L interval * M) (largest-same (others i) (recordAt (t .records) i .priority))))
+    elsewhere-same = ap (λ (f : ℕ → ℕ). leastWithin f 1 limit) (fun-ext (λ L. ap (λ (M : ℕ). recordAt (t .records) i .cost + above L + up L interval * M + supplierOf (t .round) (t .share) L) (largest-same (others i) (recordAt (t .records) i .priority))))
       where
         above : ℕ → ℕ
         above L = sumBelow (λ k. cond (ltb (recordAt (t .records) i .priority) (recordAt (t .records) k .priority)) (up L (recordAt (t .records) k .period) * recordAt (t .records) k .cost) 0) (t .count)
@@ -55,6 +55,7 @@ module _ (t : Table) (interval : ℕ) (c d : List ℕ) (same : (k : ℕ) → k <
             + sumBelow (λ k. cond (ltb (recordAt (t .records) i .priority) (recordAt (t .records) k .priority)) (up L (recordAt (t .records) k .period) * recordAt (t .records) k .cost) 0) (t .count)
             + sumBelow (λ k. cond (ltb q (recordAt (t .records) k .priority) && ltb (recordAt (t .records) k .priority) (recordAt (t .records) i .priority)) ((1 + up L (recordAt (t .records) k .period)) * recordAt (t .records) k .cost) 0) (t .count)
             + (up L interval - 1) * N
+            + supplierOf (t .round) (t .share) L
 
     -- so each record has the same response, within every limit
     pub response-same : i < t .count → responseWithin limit (tasksOf t interval c) i ≡ responseWithin limit (tasksOf t interval d) i

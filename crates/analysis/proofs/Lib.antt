@@ -3,6 +3,7 @@ pub mod Rounding
 pub mod Totalled
 pub mod Climbing
 pub mod Tied
+pub mod Shared
 pub mod Found
 pub mod Verdicts
 pub mod Limits

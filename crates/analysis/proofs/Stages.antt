@@ -18,6 +18,7 @@ use Rattle.analysis.proofs.Rounding.{up-rises, up-some}
 use Rattle.analysis.proofs.Totalled.{sum-agree, sum-rises}
 use Rattle.analysis.proofs.Climbing.{Short, Least, least-says, least-none, least-agree, least-later}
 use Rattle.analysis.proofs.Tied.{none-between}
+use Rattle.analysis.proofs.Shared.{unshared}
 
 -- "K is the largest B among all records, i included, with q ≥ p of i, or 0."
 unfoldable pub backupAfter : Tasks → ℕ → ℕ
@@ -59,8 +60,8 @@ sum-less {f} {g} (suc n) each =
 times-less : (a b c : ℕ) → (a - b) * c ≡ a * c - b * c
 times-less a b c = mul-comm (a - b) c ∙ mul-sub c a b ∙ ap₂ _-_ (mul-comm c a) (mul-comm c b)
 
--- a task whose backup runs at its own priority
-module _ (s : Tasks) (i : ℕ) (own : s .fault i ≡ s .at i .priority) (often : 1 ≤ s .interval) where
+-- a task whose backup runs at its own priority, on a processor that is not shared: document 01 knows no other
+module _ (s : Tasks) (i : ℕ) (own : s .fault i ≡ s .at i .priority) (often : 1 ≤ s .interval) (whole : s .round ≡ s .share) where
   -- what the tasks above take of a length
   above : ℕ → ℕ → ℕ
   above L k = cond (ltb (s .at i .priority) (s .at k .priority)) (up L (s .at k .period) * s .at k .cost) 0
@@ -95,7 +96,7 @@ module _ (s : Tasks) (i : ℕ) (own : s .fault i ≡ s .at i .priority) (often :
 
   itself-is : (L : ℕ) → struckItself s i L ≡ s .at i .cost + stageOne s i L
   unfolding struckItself above
-  itself-is L = omega (arith, one-is L, nobody-between L (s .count))
+  itself-is L = omega (arith, one-is L, nobody-between L (s .count), unshared (s .round) (s .share) whole L)
 
   one-rises : (a b : ℕ) → a ≤ b → stageOne s i a ≤ stageOne s i b
   one-rises a b h =

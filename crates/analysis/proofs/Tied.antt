@@ -12,7 +12,7 @@ use Rattle.analysis.specs.declared.Demand.{Demand}
 use Rattle.analysis.specs.Rounding.{up}
 use Rattle.analysis.specs.Tasks.{Tasks}
 use Rattle.analysis.specs.Backups.{others, everyone, backupOf, largestBackup, backupElsewhere, backupFromFault}
-use Rattle.analysis.specs.Equations.{isBetween, struckElsewhere, struckItself}
+use Rattle.analysis.specs.Equations.{supplierOf, isBetween, struckElsewhere, struckItself}
 use Rattle.analysis.specs.Demand.{runOf, loadOf, demandOf}
 use Rattle.analysis.proofs.Rounding.{up-rises, up-some}
 use Rattle.analysis.proofs.Totalled.{sum-agree, sum-plus, most-apart, sum-rises}
@@ -31,8 +31,10 @@ run-rises r level low h =
     cond-rises (ltb level (r .priority)) (ltb low (r .priority) && ltb (r .priority) level) (mul-le-mul-right (r .cost) more) (mul-le-mul-right (r .cost) (omega arith))
 
 load-rises : (s : Tasks) (d : Demand) {a b : ℕ} → a ≤ b → loadOf s d a ≤ loadOf s d b
-unfolding loadOf
-load-rises s d h = add-le-add (sum-rises (s .count) (λ k below. run-rises (s .at k) (d .level) (d .low) h)) (mul-le-mul-right (d .backup) (up-rises (s .interval) h))
+unfolding loadOf supplierOf
+load-rises s d h =
+    add-le-add (add-le-add (sum-rises (s .count) (λ k below. run-rises (s .at k) (d .level) (d .low) h)) (mul-le-mul-right (d .backup) (up-rises (s .interval) h)))
+    (mul-le-mul-right (s .round - s .share) (up-rises (s .round) h))
 
 pub demand-rises : (s : Tasks) (d : Demand) (a b : ℕ) → a ≤ b → demandOf s d a ≤ demandOf s d b
 unfolding demandOf

@@ -1,4 +1,4 @@
--- What the equations read: the records, the fault interval E, and a fault priority for each record, which a choice beside the table gives.
+-- What the equations read: the records, the fault interval E, the supplier's round Q with our share S of it, and a fault priority for each record, which a choice beside the table gives.
 use Prim.Native.Nat.{ℕ}
 use mathlib.Core.Bool.{cond}
 use mathlib.Core.List.{List}
@@ -13,11 +13,13 @@ pub record Tasks : Type 0 where
   pub count : ℕ
   pub at : ℕ → Record
   pub interval : ℕ
+  pub round : ℕ
+  pub share : ℕ
   pub fault : ℕ → ℕ
 
 -- a table's tasks under a fault interval and a choice of fault priorities
 abbrev pub tasksOf : Table → ℕ → List ℕ → Tasks
-tasksOf t interval choice = record { count = t .count; at = recordAt (t .records); interval = interval; fault = λ place. getD choice place 0 }
+tasksOf t interval choice = record { count = t .count; at = recordAt (t .records); interval = interval; round = t .round; share = t .share; fault = λ place. getD choice place 0 }
 
 -- a record's own fault priority, 0 past the count
 unfoldable pub faultAt : Table → ℕ → ℕ

@@ -1,4 +1,4 @@
-// Response times, the verdict and the least fault interval of a timing table, by the equations of document 01.
+// Response times, the verdict and the least fault interval of a timing table, by the equations of documents 01 and 02.
 // Every call answers any table: a refused one gets its number, beside zeros, no, or nothing else.
 ghost use mathlib.Core.Path.{_≡_};
 ghost use Rattle.analysis.specs.Answers.{timedRefusal, timedAnswer, choiceRefusal, assessmentOf, choiceAssessment, ownAssessment, intervalAnswer};

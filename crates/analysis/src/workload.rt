@@ -6,6 +6,7 @@ ghost use Rattle.sheet.specs.Rules.{tableRefusal};
 ghost use Rattle.analysis.specs.Rounding.{up};
 ghost use Rattle.analysis.specs.Tasks.{tasksOf};
 ghost use Rattle.analysis.specs.Backups.{others, everyone, largestBackup, backupOf};
+ghost use Rattle.analysis.specs.Equations.{supplierOf};
 ghost use Rattle.analysis.specs.Demand.{runOf, loadOf, demandOf};
 use crate::Demand;
 use sheet::Record;
@@ -102,17 +103,26 @@ fn run_of(task: Record, level: u8, low: u8, length: u32) -> u32
     0
 }
 
-// What the records above the demand's levels, and the faults, take of a length.
+// What the supplier takes of a length: as a task above all others would, whose period is the round and whose cost is what is left of it beside our share.
+fn supplier(round: u16, share: u16, length: u32) -> u32
+    requires { ⌜ (1 ≤ round) × (share ≤ round) × (length < 65536) ⌝ }
+    ensures { λ r. ⌜ (r ≡ supplierOf round share length) × (r ≤ 4294836225) ⌝ }
+{
+    up(length, half_wide(round)) * half_wide(round - share)
+}
+
+// What the records above the demand's levels, the faults and the supplier take of a length.
 pub fn load(table: Table, interval: u16, demand: Demand, length: u64) -> u64
     requires { ⌜ (tableRefusal table ≡ 0) × (1 ≤ interval) × (length < 65536) ⌝ }
-    ensures { λ r. ⌜ (r ≡ loadOf (tasksOf table interval []) demand length) × (r ≤ 38654050305) ⌝ }
+    ensures { λ r. ⌜ (r ≡ loadOf (tasksOf table interval []) demand length) × (r ≤ 42948886530) ⌝ }
 {
     let count = table.count as usize;
     let level = demand.level;
     let low = demand.low;
     let span = length as u32;
     let faults = up(span, half_wide(interval)) * half_wide(demand.backup);
-    let mut total = faults as u64;
+    let shared = supplier(table.round, table.share, span);
+    let mut total = faults as u64 + shared as u64;
     let mut place: usize = 0;
     while place < count {
         total += run_of(table.records[place], level, low, span) as u64;

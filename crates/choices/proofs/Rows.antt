@@ -6,7 +6,7 @@ use lib.IntN.{pos, negℤ}
 use lib.ListN.{length}
 use Rattle.sheet.specs.Places.{filledBelow, someBelow}
 use Rattle.sheet.specs.Packing.{regrouped}
-use Rattle.sheet.specs.Layout.{headerOf, countOf, intervalOf, partOf, recordFrom, recordOf, sheetRecord, recordAt, room, tableOf}
+use Rattle.sheet.specs.Layout.{headerOf, countOf, editionOf, intervalOf, roundOf, shareOf, startOf, partOf, recordFrom, recordOf, sheetRecord, recordAt, room, tableOf}
 use Rattle.analysis.specs.declared.Outcome.the-variants.{OnTime, Late}
 use Rattle.analysis.specs.declared.Slack.the-variants.{Figure, NoFigure}
 use Rattle.analysis.specs.declared.Entry.{Entry}
@@ -14,7 +14,7 @@ use Rattle.analysis.specs.Rounding.{up}
 use Rattle.analysis.specs.Totals.{sumBelow, mostBelow}
 use Rattle.analysis.specs.Tasks.{faultAt, ownChoice}
 use Rattle.analysis.specs.Backups.{others, everyone, backupOf, largestBackup, backupElsewhere, backupFromFault}
-use Rattle.analysis.specs.Equations.{isBetween, struckElsewhere, struckItself}
+use Rattle.analysis.specs.Equations.{supplierOf, isBetween, struckElsewhere, struckItself}
 use Rattle.analysis.specs.Search.{firstFrom, leastWithin}
 use Rattle.analysis.specs.Response.{timeElsewhere, timeItself, responseWithin, responseTime, isLate, passes}
 use Rattle.analysis.specs.Answers.{outcomeOf, slackOf, entryFrom, entryOf, ownTasks}
@@ -119,9 +119,9 @@ rows =
 
 pub rows-hold : All rows
 unfolding rows times choice sheetA lone task together sheet
-    headerOf countOf intervalOf partOf recordFrom recordOf sheetRecord recordAt room tableOf regrouped filledBelow someBelow
+    headerOf countOf editionOf intervalOf roundOf shareOf startOf partOf recordFrom recordOf sheetRecord recordAt room tableOf regrouped filledBelow someBelow
     up sumBelow mostBelow faultAt ownChoice others everyone backupOf largestBackup backupElsewhere backupFromFault
-    isBetween struckElsewhere struckItself firstFrom leastWithin timeElsewhere timeItself responseWithin responseTime isLate passes
+    isBetween supplierOf struckElsewhere struckItself firstFrom leastWithin timeElsewhere timeItself responseWithin responseTime isLate passes
     outcomeOf slackOf entryFrom entryOf entriesBelow onTime lateBy lateBeyond
     levelsOf inRow entriesFor spread choicesOf sift passingOf before afterOf
 rows-hold = one refl (one refl (one refl (one refl (one refl (one refl (one refl (one refl (one refl (one refl (one refl (one refl (one refl (one refl (one refl (one refl (one refl (one refl (one refl (one refl (one refl (one refl (one refl (one refl none)))))))))))))))))))))))

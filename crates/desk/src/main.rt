@@ -25,8 +25,8 @@ fn answer(table: Table) -> u8 {
 }
 
 // Prints the answer to the first bytes, as a sheet of that length, and gives how it stands.
-fn judge(bytes: [u8; 76], length: usize, is_explained: bool) -> u8 {
-    if 76 < length {
+fn judge(bytes: [u8; 80], length: usize, is_explained: bool) -> u8 {
+    if 80 < length {
         return standing::TROUBLE;
     }
     let reading = sheet::read(&bytes[..length]);
@@ -49,14 +49,14 @@ fn failed() -> u8 {
     standing::TROUBLE
 }
 
-// The answer to standard input. 76 bytes decide any input that is longer than a sheet can be, so the rest is read and dropped.
+// The answer to standard input. 80 bytes decide any input that is longer than a sheet can be, so the rest is read and dropped.
 fn judge_input(is_explained: bool) -> u8 {
-    let mut bytes = [0u8; 76];
+    let mut bytes = [0u8; 80];
     match input::fill(&mut bytes) {
         Filled::Ended(length) => judge(bytes, length, is_explained),
         Filled::Full => {
             if input::is_read_to_its_end() {
-                return judge(bytes, 76, is_explained);
+                return judge(bytes, 80, is_explained);
             }
             failed()
         }

@@ -42,12 +42,13 @@ six-kept numbers n place room =
       fault = ap (λ (x : ℕ). min x 255) (getD-take n numbers (6 * place + 5) 0 room);
     }
 
--- the table of numbers has the count, the interval, and such a record at each place below the count
-pub given-table : (count interval : ℕ) (numbers : List ℕ)
-    → (givenTable count interval numbers .count ≡ count) × (givenTable count interval numbers .interval ≡ interval)
-    × ((place : ℕ) → place < count → place < 8 → SixNumbers numbers place (recordAt (givenTable count interval numbers .records) place))
+-- the table of numbers has the count, the interval, the round, the share, and such a record at each place below the count
+pub given-table : (count interval round share : ℕ) (numbers : List ℕ)
+    → (givenTable count interval round share numbers .count ≡ count) × (givenTable count interval round share numbers .interval ≡ interval)
+    × (givenTable count interval round share numbers .round ≡ round) × (givenTable count interval round share numbers .share ≡ share)
+    × ((place : ℕ) → place < count → place < 8 → SixNumbers numbers place (recordAt (givenTable count interval round share numbers .records) place))
 unfolding givenTable tableFrom
-given-table count interval numbers = (refl, refl, λ place below few. rw (room-at (givenRecord (take (6 * count) numbers)) 8 (omega arith) place few) (six-kept numbers (6 * count) place (omega arith)))
+given-table count interval round share numbers = (refl, refl, refl, refl, λ place below few. rw (room-at (givenRecord (take (6 * count) numbers)) 8 (omega arith) place few) (six-kept numbers (6 * count) place (omega arith)))
 
 -- "A choice is a number of 32 bits": the entries of a choice's number are the choice
 pub entries-back : (c : List ℕ) → length c ≡ 8 → small c → entriesOf (choiceOf c) ≡ c

@@ -12,7 +12,7 @@ use lib.Dec.{ltb}
 use lib.IntN.{ℤ, pos, negℤ}
 use lib.ListN.{length, set, drop}
 use Rattle.sheet.specs.Places.{orElse}
-use Rattle.sheet.specs.Layout.{sizeOf, countOf, tableOf}
+use Rattle.sheet.specs.Layout.{headerSize, sizeOf, countOf, startOf, isWhole, editionFor, tableSize, tableOf}
 use Rattle.sheet.specs.Rules.{sheetRefusal}
 use Rattle.sheet.specs.Answers.{writeRefusal, placeRefusal}
 use Rattle.sheet.proofs.Tells.{Tells, holds, fails, ltb-tells, eqb-tells}
@@ -29,9 +29,9 @@ use Rattle.choices.specs.Order.{afterOf}
 use Rattle.choices.specs.Answers.{walkRefusal, listRefusal}
 use Rattle.choices.proofs.Demands.{Zero, start-13}
 use Rattle.choices.proofs.Refused.{list-11, list-refused-leaves}
-use Rattle.fidhaqooban.specs.Numbers.{answerOf, givenTable, timeOf, figuresOf, figureIn, entriesOf, choiceOf, countNumbers}
+use Rattle.fidhaqooban.specs.Numbers.{answerOf, tableFrom, givenTable, timeOf, figuresOf, figureIn, entriesOf, choiceOf, countNumbers}
 use Rattle.replay.specs.Answers.{replayAnswer}
-use Rattle.fidhaqooban.specs.Answers.{writeNumber, writeLeft, rewriteRefusal, rewriteNumber, rewriteLeft, recordNumber, responseNumber, slackRefusal, slackNumber, slackLeft, verdictNumber, intervalNumber, firstNumber, nextRefusal, nextNumber, listingRefusal, listNumber, listLeft, replayedRefusal, replayNumber, replayLeft}
+use Rattle.fidhaqooban.specs.Answers.{writeSharedNumber, writeSharedLeft, writeNumber, writeLeft, rewriteRefusal, rewriteNumber, rewriteLeft, recordNumber, responseNumber, slackRefusal, slackNumber, slackLeft, verdictNumber, intervalNumber, firstNumber, nextRefusal, nextNumber, listingRefusal, listNumber, listLeft, replayedRefusal, replayNumber, replayLeft}
 
 -- asking for a place is never refused with 11
 place-not-11 : (sheet : List ℕ) (place : ℕ) → placeRefusal sheet place ≡ 11 → ⊥
@@ -52,17 +52,22 @@ said : (refusal value : ℕ) → Said refusal value (answerOf refusal value)
 unfolding answerOf
 said refusal value = record { refused = λ broken. simp (ne-eqb refusal 0 broken); given = λ fine. simp (eq-eqb refusal 0 fine) }
 
--- `fq_write`
-module _ (count interval : ℕ) (numbers out : List ℕ) where
+-- `fq_write_shared`, and with Q = S = 1 `fq_write`
+module _ (count interval round share : ℕ) (numbers out : List ℕ) where
   -- "bytes written"
-  pub write-said : Said (writeRefusal (givenTable count interval numbers) out) (3 + 9 * count) (writeNumber count interval numbers out)
-  unfolding writeNumber sizeOf
-  write-said = said _ (3 + 9 * count)
+  pub write-said : Said (writeRefusal (givenTable count interval round share numbers) out) (headerSize (editionFor round share) + 9 * count) (writeSharedNumber count interval round share numbers out)
+  unfolding writeSharedNumber givenTable tableFrom tableSize sizeOf
+  write-said = said _ _
 
   -- refused, the output stays as it was
-  pub write-kept : (writeRefusal (givenTable count interval numbers) out ≡ 0 → ⊥) → writeLeft count interval numbers out ≡ out
-  unfolding writeLeft
-  write-kept broken = write-refused-leaves (givenTable count interval numbers) out broken .2
+  pub write-kept : (writeRefusal (givenTable count interval round share numbers) out ≡ 0 → ⊥) → writeSharedLeft count interval round share numbers out ≡ out
+  unfolding writeSharedLeft
+  write-kept broken = write-refused-leaves (givenTable count interval round share numbers) out broken .2
+
+-- the whole processor takes 3 + 9 × count bytes
+pub write-whole : (count interval : ℕ) (numbers out : List ℕ) → Said (writeRefusal (givenTable count interval 1 1 numbers) out) (3 + 9 * count) (writeNumber count interval numbers out)
+unfolding writeNumber editionFor isWhole
+write-whole count interval numbers out = write-said count interval 1 1 numbers out
 
 -- `fq_rewrite`
 module _ (sheet out : List ℕ) where
@@ -83,7 +88,7 @@ module _ (sheet out : List ℕ) where
 
 module _ (sheet : List ℕ) where
   -- `fq_record`: "where the record's nine bytes start"
-  pub record-said : (place : ℕ) → Said (placeRefusal sheet place) (3 + 9 * place) (recordNumber sheet place)
+  pub record-said : (place : ℕ) → Said (placeRefusal sheet place) (startOf sheet + 9 * place) (recordNumber sheet place)
   unfolding recordNumber
   record-said place = said _ _
 

@@ -3,12 +3,12 @@ use Prim.Native.Nat.{_*_}
 use mathlib.Core.Path.{_≡_, refl}
 use Rattle.sheet.specs.Places.{someBelow, filledBelow}
 use Rattle.sheet.specs.Packing.{regrouped}
-use Rattle.sheet.specs.Layout.{headerOf, countOf, intervalOf, partOf, recordFrom, recordOf, sheetRecord, recordAt, room, tableOf}
+use Rattle.sheet.specs.Layout.{headerOf, countOf, editionOf, intervalOf, roundOf, shareOf, startOf, partOf, recordFrom, recordOf, sheetRecord, recordAt, room, tableOf}
 use Rattle.analysis.specs.Rounding.{up}
 use Rattle.analysis.specs.Totals.{sumBelow, mostBelow}
 use Rattle.analysis.specs.Tasks.{faultAt, ownChoice}
 use Rattle.analysis.specs.Backups.{others, everyone, backupOf, largestBackup, backupElsewhere, backupFromFault}
-use Rattle.analysis.specs.Equations.{isBetween, struckElsewhere, struckItself}
+use Rattle.analysis.specs.Equations.{supplierOf, isBetween, struckElsewhere, struckItself}
 use Rattle.analysis.specs.Search.{firstFrom, leastWithin}
 use Rattle.analysis.specs.Response.{timeElsewhere, timeItself, responseWithin, responseTime}
 use Rattle.analysis.specs.Answers.{ownTasks}
@@ -17,16 +17,16 @@ use Rattle.replay.proofs.Rows.{sheet, leftAfter, first-done}
 
 -- "By 01 the first task takes 10."
 pub former-figure : formerResponse 65535 (ownTasks (tableOf sheet)) 0 ≡ 10
-unfolding sheet headerOf countOf intervalOf partOf recordFrom recordOf sheetRecord recordAt room tableOf regrouped filledBelow someBelow
+unfolding sheet headerOf countOf editionOf intervalOf roundOf shareOf startOf partOf recordFrom recordOf sheetRecord recordAt room tableOf regrouped filledBelow someBelow
     up sumBelow mostBelow faultAt ownChoice others everyone backupOf largestBackup backupElsewhere backupFromFault backupAfter
-    stageOne stageTwo lengthOne formerItself formerResponse struckElsewhere firstFrom leastWithin timeElsewhere
+    stageOne stageTwo lengthOne formerItself formerResponse supplierOf struckElsewhere firstFrom leastWithin timeElsewhere
 former-figure = refl
 
 -- "The task above now gets 14."
 pub figure : responseTime (ownTasks (tableOf sheet)) 0 ≡ 14
-unfolding sheet headerOf countOf intervalOf partOf recordFrom recordOf sheetRecord recordAt room tableOf regrouped filledBelow someBelow
+unfolding sheet headerOf countOf editionOf intervalOf roundOf shareOf startOf partOf recordFrom recordOf sheetRecord recordAt room tableOf regrouped filledBelow someBelow
     up sumBelow mostBelow faultAt ownChoice others everyone backupOf largestBackup backupElsewhere backupFromFault
-    isBetween struckElsewhere struckItself firstFrom leastWithin timeElsewhere timeItself responseWithin responseTime
+    isBetween supplierOf struckElsewhere struckItself firstFrom leastWithin timeElsewhere timeItself responseWithin responseTime
 figure = refl
 
 -- "the first finishes at 12": so the former figure was too small. Two bytes of the log are a tick

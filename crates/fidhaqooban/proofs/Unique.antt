@@ -5,10 +5,15 @@ use mathlib.Core.List.{List}
 use lib.IntN.{ℤ}
 use Rattle.sheet.specs.Rules.{sheetRefusal}
 use Rattle.sheet.proofs.Unique.{both}
-use Rattle.fidhaqooban.specs.Answers.{writeNumber, writeLeft, rewriteNumber, rewriteLeft, recordNumber, responseNumber, slackNumber, slackLeft, verdictNumber, intervalNumber, nextNumber, listNumber, listLeft, replayNumber, replayLeft}
+use Rattle.fidhaqooban.specs.Answers.{writeSharedNumber, writeSharedLeft, writeNumber, writeLeft, rewriteNumber, rewriteLeft, recordNumber, responseNumber, slackNumber, slackLeft, verdictNumber, intervalNumber, nextNumber, listNumber, listLeft, replayNumber, replayLeft}
 
 pub fq-judge-unique : (sheet : List ℕ) (a b : ℕ) → a ≡ sheetRefusal sheet → b ≡ sheetRefusal sheet → a ≡ b
 fq-judge-unique sheet a b = both
+
+pub fq-write-shared-unique : (count interval round share : ℕ) (fields out : List ℕ) (a b : ℤ) (left left′ : List ℕ)
+    → (a ≡ writeSharedNumber count interval round share fields out) × (left ≡ writeSharedLeft count interval round share fields out)
+    → (b ≡ writeSharedNumber count interval round share fields out) × (left′ ≡ writeSharedLeft count interval round share fields out) → (a ≡ b) × (left ≡ left′)
+fq-write-shared-unique count interval round share fields out a b left left′ p q = (both (p .0) (q .0), both (p .1) (q .1))
 
 pub fq-write-unique : (count interval : ℕ) (fields out : List ℕ) (a b : ℤ) (left left′ : List ℕ)
     → (a ≡ writeNumber count interval fields out) × (left ≡ writeLeft count interval fields out)

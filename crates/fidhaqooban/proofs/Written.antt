@@ -11,13 +11,14 @@ use lib.ListN.{length, drop}
 use Rattle.sheet.specs.declared.Reading.{Reading}
 use Rattle.sheet.specs.declared.Table.{Table}
 use Rattle.sheet.specs.declared.Writing.{Writing}
-use Rattle.sheet.specs.Layout.{countOf, sizeOf, tableOf, sheetOf}
+use Rattle.sheet.specs.Layout.{sizeOf, tableSize, tableOf, sheetOf}
 use Rattle.sheet.specs.Rules.{sheetRefusal}
 use Rattle.sheet.specs.Answers.{readAnswer, writeRefusal, writeAnswer, writeLeaves}
 use Rattle.sheet.proofs.Spelled.{Bytes}
 use Rattle.sheet.proofs.Turns.{next-of, none-of}
 use Rattle.sheet.proofs.Cases.{GoodHeader, good-sheet}
-use Rattle.sheet.proofs.Return.{sheet-kept}
+use Rattle.sheet.proofs.Editions.{edition-low}
+use Rattle.sheet.proofs.Return.{size-kept, sheet-kept}
 use Rattle.fidhaqooban.specs.Numbers.{answerOf}
 use Rattle.fidhaqooban.specs.Answers.{rewriteRefusal, rewriteNumber, rewriteLeft}
 use Rattle.fidhaqooban.proofs.Answered.{answered, good-read, table-read, good-table-read}
@@ -28,11 +29,11 @@ at-most true n = le-refl n
 at-most false n = zero-le
 
 module _ (t : Table) (out : List ℕ) (writing : Writing) (e : writing ≡ writeAnswer t out) where
-  pub written-room : writing .written ≤ sizeOf (t .count)
+  pub written-room : writing .written ≤ tableSize t
   unfolding writeAnswer
-  written-room = rw e (at-most (eqb (writeRefusal t out) 0) (sizeOf (t .count)))
+  written-room = rw e (at-most (eqb (writeRefusal t out) 0) (tableSize t))
 
-  pub write-is : answerOf (writing .refusal) (writing .written) ≡ answerOf (writeRefusal t out) (sizeOf (t .count))
+  pub write-is : answerOf (writing .refusal) (writing .written) ≡ answerOf (writeRefusal t out) (tableSize t)
   unfolding writeAnswer
   write-is = ap (λ (w : Writing). answerOf (w .refusal) (w .written)) e ∙ answered (writeRefusal t out) _ _ (λ fine. simp fine)
 
@@ -47,25 +48,29 @@ module _ (s : List ℕ) (reading : Reading) (e : reading ≡ readAnswer s) (left
   known = good-sheet s (good-read s reading e left) .0
 
   refused-same : writeRefusal (tableOf s) out ≡ rewriteRefusal s out
-  unfolding writeRefusal rewriteRefusal tableOf
+  unfolding writeRefusal rewriteRefusal
   refused-same =
-      next-of _ (good-table-read s reading e left) ∙ ap (λ (n : ℕ). cond (ltb (length out) n) 11 0) (sym (known .size)) ∙ sym (next-of _ (good-read s reading e left))
+      next-of _ (good-table-read s reading e left) ∙ ap (λ (n : ℕ). cond (ltb (length out) n) 11 0) (sym (size-kept s known)) ∙ sym (next-of _ (good-read s reading e left))
 
-  pub rewrite-room : (writing : Writing) → writing ≡ writeAnswer (reading .table) out → writing .written ≤ 75
-  unfolding tableOf sizeOf
+  count-few : tableOf s .count ≤ 8
+  unfolding tableOf
+  count-few = known .count .1
+
+  pub rewrite-room : (writing : Writing) → writing ≡ writeAnswer (reading .table) out → writing .written ≤ 79
+  unfolding tableSize sizeOf
   rewrite-room writing given =
-      omega (arith, written-room (tableOf s) out writing (given ∙ ap (λ (t : Table). writeAnswer t out) (table-read s reading e left)), known .count .1)
+      omega (arith, written-room (tableOf s) out writing (given ∙ ap (λ (t : Table). writeAnswer t out) (table-read s reading e left)), edition-low (tableOf s .round) (tableOf s .share), count-few)
 
   pub rewrite-is : (writing : Writing) → writing ≡ writeAnswer (reading .table) out → answerOf (writing .refusal) (writing .written) ≡ rewriteNumber s out
-  unfolding rewriteNumber tableOf
+  unfolding rewriteNumber
   rewrite-is writing given =
       write-is (tableOf s) out writing (given ∙ ap (λ (t : Table). writeAnswer t out) (table-read s reading e left))
-      ∙ ap (answerOf (writeRefusal (tableOf s) out)) (sym (known .size)) ∙ ap (λ (r : ℕ). answerOf r (length s)) refused-same
+      ∙ ap (answerOf (writeRefusal (tableOf s) out)) (sym (size-kept s known)) ∙ ap (λ (r : ℕ). answerOf r (length s)) refused-same
 
   pub rewrite-leaves : Bytes s → writeLeaves (reading .table) out ≡ rewriteLeft s out
-  unfolding writeLeaves rewriteLeft tableOf
+  unfolding writeLeaves rewriteLeft
   rewrite-leaves byte =
       ap (λ (t : Table). writeLeaves t out) (table-read s reading e left)
-      ∙ ap (λ (r : ℕ). cond (eqb r 0) (sheetOf (tableOf s) ++ drop (sizeOf (countOf s)) out) out) refused-same
-      ∙ ap (λ (n : ℕ). cond (eqb (rewriteRefusal s out) 0) (sheetOf (tableOf s) ++ drop n out) out) (sym (known .size))
+      ∙ ap (λ (r : ℕ). cond (eqb r 0) (sheetOf (tableOf s) ++ drop (tableSize (tableOf s)) out) out) refused-same
+      ∙ ap (λ (n : ℕ). cond (eqb (rewriteRefusal s out) 0) (sheetOf (tableOf s) ++ drop n out) out) (sym (size-kept s known))
       ∙ ap (λ (l : List ℕ). cond (eqb (rewriteRefusal s out) 0) (l ++ drop (length s) out) out) (sheet-kept s byte known)

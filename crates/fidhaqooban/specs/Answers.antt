@@ -6,7 +6,7 @@ use lib.Dec.{eqb, ltb}
 use lib.IntN.{ℤ}
 use lib.ListN.{length, drop}
 use Rattle.sheet.specs.Places.{orElse}
-use Rattle.sheet.specs.Layout.{sizeOf, tableOf}
+use Rattle.sheet.specs.Layout.{tableSize, startOf, tableOf}
 use Rattle.sheet.specs.Rules.{sheetRefusal}
 use Rattle.sheet.specs.Answers.{writeRefusal, writeLeaves, placeRefusal}
 use Rattle.analysis.specs.Response.{passes}
@@ -17,13 +17,21 @@ use Rattle.choices.specs.Answers.{walkRefusal, listRefusal, listLeaves}
 use Rattle.replay.specs.Answers.{replayRefusal, replayAnswer}
 use Rattle.fidhaqooban.specs.Numbers.{answerOf, givenTable, timeOf, figuresOf, figureIn, entriesOf, choiceOf, countNumbers}
 
--- `fq_write`: "bytes written"
-unfoldable pub writeNumber : ℕ → ℕ → List ℕ → List ℕ → ℤ
-writeNumber count interval numbers out = answerOf (writeRefusal (givenTable count interval numbers) out) (sizeOf count)
+-- `fq_write_shared`: "bytes written"
+unfoldable pub writeSharedNumber : ℕ → ℕ → ℕ → ℕ → List ℕ → List ℕ → ℤ
+writeSharedNumber count interval round share numbers out =
+    answerOf (writeRefusal (givenTable count interval round share numbers) out) (tableSize (givenTable count interval round share numbers))
 
 -- what it leaves in the output: the sheet and then the bytes as they were, or all as it was
+unfoldable pub writeSharedLeft : ℕ → ℕ → ℕ → ℕ → List ℕ → List ℕ → List ℕ
+writeSharedLeft count interval round share numbers out = writeLeaves (givenTable count interval round share numbers) out
+
+-- `fq_write`: the same for the whole processor
+unfoldable pub writeNumber : ℕ → ℕ → List ℕ → List ℕ → ℤ
+writeNumber count interval = writeSharedNumber count interval 1 1
+
 unfoldable pub writeLeft : ℕ → ℕ → List ℕ → List ℕ → List ℕ
-writeLeft count interval numbers out = writeLeaves (givenTable count interval numbers) out
+writeLeft count interval = writeSharedLeft count interval 1 1
 
 -- the refusal of `fq_rewrite`: the sheet's, then 11
 unfoldable pub rewriteRefusal : List ℕ → List ℕ → ℕ
@@ -39,7 +47,7 @@ rewriteLeft sheet out = cond (eqb (rewriteRefusal sheet out) 0) (sheet ++ drop (
 
 -- `fq_record`: "where the record's nine bytes start"
 unfoldable pub recordNumber : List ℕ → ℕ → ℤ
-recordNumber sheet place = answerOf (placeRefusal sheet place) (3 + 9 * place)
+recordNumber sheet place = answerOf (placeRefusal sheet place) (startOf sheet + 9 * place)
 
 -- `fq_response`: "the time; 0 late; -12 for the place"
 unfoldable pub responseNumber : List ℕ → ℕ → ℤ

@@ -40,12 +40,12 @@ givenRecord numbers place =
     }
 
 -- the table whose eight records the numbers give
-unfoldable pub tableFrom : ℕ → ℕ → List ℕ → Table
-tableFrom count interval numbers = record { count = count; interval = interval; records = room (givenRecord numbers) 8 }
+unfoldable pub tableFrom : ℕ → ℕ → ℕ → ℕ → List ℕ → Table
+tableFrom count interval round share numbers = record { count = count; interval = interval; round = round; share = share; records = room (givenRecord numbers) 8 }
 
 -- "numbers after 6 × count are ignored"
-unfoldable pub givenTable : ℕ → ℕ → List ℕ → Table
-givenTable count interval numbers = tableFrom count interval (take (6 * count) numbers)
+unfoldable pub givenTable : ℕ → ℕ → ℕ → ℕ → List ℕ → Table
+givenTable count interval round share numbers = tableFrom count interval round share (take (6 * count) numbers)
 
 -- an outcome's time, 0 where it is late
 unfoldable pub timeOf : Outcome → ℕ

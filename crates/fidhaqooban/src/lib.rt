@@ -2,7 +2,7 @@
 // Each function is thin: it reads the sheet, asks the crate that answers, and turns the answer into a number.
 ghost use mathlib.Core.Path.{_≡_};
 ghost use Rattle.sheet.specs.Rules.{sheetRefusal};
-ghost use Rattle.fidhaqooban.specs.Answers.{writeNumber, writeLeft, rewriteNumber, rewriteLeft, recordNumber, responseNumber, slackNumber, slackLeft, verdictNumber, intervalNumber, nextNumber, listNumber, listLeft, replayNumber, replayLeft};
+ghost use Rattle.fidhaqooban.specs.Answers.{writeSharedNumber, writeSharedLeft, writeNumber, writeLeft, rewriteNumber, rewriteLeft, recordNumber, responseNumber, slackNumber, slackLeft, verdictNumber, intervalNumber, nextNumber, listNumber, listLeft, replayNumber, replayLeft};
 use analysis::Interval;
 use choices::Arrival;
 use choices::Walk;
@@ -17,13 +17,28 @@ pub extern "C" fn fq_judge(sheet: &[u8]) -> u8
     sheet::judge(sheet)
 }
 
-// Writes the sheet of a count, an interval and six numbers for each record: how many bytes.
+// Writes the sheet of a count, an interval, a round, our share of it and six numbers for each record: how many bytes.
+#[no_mangle]
+pub extern "C" fn fq_write_shared(
+    count: u8,
+    interval: u16,
+    round: u16,
+    share: u16,
+    fields: &[u16],
+    out: &mut [u8],
+) -> i64
+    ensures { λ r. ⌜ (r ≡ writeSharedNumber count interval round share (now (fields .entry)) (now (out .entry))) × (now (out .exit) ≡ writeSharedLeft count interval round share (now (fields .entry)) (now (out .entry))) ⌝ }
+{
+    let writing = sheet::write(numbers::table(count, interval, round, share, fields), out);
+    numbers::answer(writing.refusal, writing.written)
+}
+
+// The same for the whole processor.
 #[no_mangle]
 pub extern "C" fn fq_write(count: u8, interval: u16, fields: &[u16], out: &mut [u8]) -> i64
     ensures { λ r. ⌜ (r ≡ writeNumber count interval (now (fields .entry)) (now (out .entry))) × (now (out .exit) ≡ writeLeft count interval (now (fields .entry)) (now (out .entry))) ⌝ }
 {
-    let writing = sheet::write(numbers::table(count, interval, fields), out);
-    numbers::answer(writing.refusal, writing.written)
+    fq_write_shared(count, interval, 1, 1, fields, out)
 }
 
 // Reads a sheet and writes it again: how many bytes.
@@ -49,7 +64,7 @@ pub extern "C" fn fq_record(sheet: &[u8], place: usize) -> i64
     if refusal != 0 {
         return numbers::answer(refusal, 0);
     }
-    numbers::answer(0, 3 + 9 * place)
+    numbers::answer(0, numbers::start(sheet) + 9 * place)
 }
 
 // The response time of the record at a place, 0 where it is late.

@@ -3,6 +3,8 @@ ghost use mathlib.Core.Path.{_≡_};
 ghost use Prim.Native.Nat.{_≤_, _<_, _^_};
 ghost use lib.ListN.{length};
 ghost use lib.Seq.{sets};
+ghost use Rattle.sheet.specs.Layout.{startOf};
+ghost use Rattle.sheet.specs.Rules.{sheetRefusal};
 ghost use Rattle.choices.specs.Stepping.{small};
 ghost use Rattle.fidhaqooban.specs.Numbers.{answerOf, numberAt, byteOf, givenRecord, tableFrom, givenTable, timeOf, figuresOf, figureIn, entriesOf, choiceOf, countNumbers};
 use analysis::Outcome;
@@ -57,8 +59,8 @@ fn record(numbers: &[u16], place: usize) -> Record
 }
 
 // The table of numbers that are all its own.
-fn table_of(count: u8, interval: u16, numbers: &[u16]) -> Table
-    ensures { λ r. ⌜ r ≡ tableFrom count interval (now (numbers .entry)) ⌝ }
+fn table_of(count: u8, interval: u16, round: u16, share: u16, numbers: &[u16]) -> Table
+    ensures { λ r. ⌜ r ≡ tableFrom count interval round share (now (numbers .entry)) ⌝ }
 {
     let mut records = [record(numbers, 0); 8];
     let mut place: usize = 1;
@@ -69,19 +71,29 @@ fn table_of(count: u8, interval: u16, numbers: &[u16]) -> Table
     Table {
         count,
         interval,
+        round,
+        share,
         records,
     }
 }
 
 // The table of numbers, those after six for each record ignored.
-pub fn table(count: u8, interval: u16, numbers: &[u16]) -> Table
-    ensures { λ r. ⌜ r ≡ givenTable count interval (now (numbers .entry)) ⌝ }
+pub fn table(count: u8, interval: u16, round: u16, share: u16, numbers: &[u16]) -> Table
+    ensures { λ r. ⌜ r ≡ givenTable count interval round share (now (numbers .entry)) ⌝ }
 {
     let end = 6 * count as usize;
     if end < numbers.len() {
-        return table_of(count, interval, &numbers[..end]);
+        return table_of(count, interval, round, share, &numbers[..end]);
     }
-    table_of(count, interval, numbers)
+    table_of(count, interval, round, share, numbers)
+}
+
+// Where a good sheet's records start: after the header of its edition, which the low half of the first byte numbers.
+pub fn start(sheet: &[u8]) -> usize
+    requires { ⌜ sheetRefusal (now sheet) ≡ 0 ⌝ }
+    ensures { λ r. ⌜ (r ≡ startOf (now (sheet .entry))) × (r ≤ 7) ⌝ }
+{
+    3 + 4 * (sheet[0] % 16) as usize
 }
 
 // An outcome's time, 0 where it is late.

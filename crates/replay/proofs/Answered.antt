@@ -3,20 +3,23 @@ use Prim.Native.Nat.{ℕ}
 use mathlib.Core.Path.{_≡_, refl, sym, ap, _∙_}
 use mathlib.Core.Bool.{Bool, true, false, cond}
 use mathlib.Core.List.{List}
+use native.Mathlib.Decide.{ℕ-discrete}
 use borrow.Author.Tests.{eq-eqb, ne-eqb}
 use lib.Dec.{eqb}
+use Rattle.sheet.specs.declared.Table.{Table}
 use Rattle.sheet.specs.declared.Reading.{Reading}
+use Rattle.sheet.specs.Places.{orElse}
 use Rattle.sheet.specs.Layout.{tableOf, noTable}
 use Rattle.sheet.specs.Rules.{sheetRefusal}
 use Rattle.sheet.specs.Answers.{readAnswer}
-use Rattle.sheet.proofs.Turns.{next-of, first-of}
+use Rattle.sheet.proofs.Turns.{next-of, first-of, none-of}
 use Rattle.replay.specs.declared.Counts.{Counts}
 use Rattle.replay.specs.declared.Machine.{Machine}
 use Rattle.replay.specs.declared.Run.{Run}
 use Rattle.replay.specs.Cells.{cellAt, isReady, oneIf, countBelow}
 use Rattle.replay.specs.Counts.{noCounts, unfinishedIn, countsFrom}
 use Rattle.replay.specs.Machines.{machineOf, noMachine, ranOver, countsOf}
-use Rattle.replay.specs.Rules.{logRefusal}
+use Rattle.replay.specs.Rules.{sharedRefusal, startRefusal, logRefusal}
 use Rattle.replay.specs.Answers.{startAnswer, goOnAnswer, replayRefusal, replayAnswer}
 
 module _ (sheet : List ℕ) (reading : Reading) (read : reading ≡ readAnswer sheet) where
@@ -24,16 +27,29 @@ module _ (sheet : List ℕ) (reading : Reading) (read : reading ≡ readAnswer s
   unfolding readAnswer
   read-refusal = ap (λ (r : Reading). r .refusal) read
 
-  pub start-refused : (none : Machine) → (reading .refusal ≡ 0 → ⊥) → none ≡ noMachine → record { refusal = reading .refusal; machine = none } ≡ startAnswer sheet
-  unfolding startAnswer
-  start-refused none broken e = rw (← read-refusal) (simp (ne-eqb (reading .refusal) 0 broken, e))
+  read-table : sheetRefusal sheet ≡ 0 → reading .table ≡ tableOf sheet
+  unfolding readAnswer
+  read-table good = ap (λ (r : Reading). r .table) read ∙ ap (λ (b : Bool). cond b (tableOf sheet) noTable) (eq-eqb (sheetRefusal sheet) 0 good)
 
-  pub start-passed : (m : Machine) → reading .refusal ≡ 0 → m ≡ machineOf (reading .table) → record { refusal = 0; machine = m } ≡ startAnswer sheet
-  unfolding startAnswer readAnswer
-  start-passed m passed e =
-      let good : sheetRefusal sheet ≡ 0 = sym read-refusal ∙ passed in
-      let table : reading .table ≡ tableOf sheet = ap (λ (r : Reading). r .table) read ∙ ap (λ (b : Bool). cond b (tableOf sheet) noTable) (eq-eqb (sheetRefusal sheet) 0 good) in
-      simp (good, e ∙ ap machineOf table)
+  -- what is judged of the reading is the refusal of the start
+  module _ (refusal : ℕ) (judged : refusal ≡ orElse (reading .refusal) (sharedRefusal (reading .table))) where
+    start-judged : refusal ≡ startRefusal sheet
+    unfolding startRefusal
+    start-judged = judged ∙ ap (λ (r : ℕ). orElse r (sharedRefusal (reading .table))) read-refusal ∙ go (ℕ-discrete (sheetRefusal sheet) 0)
+      where
+        go : Dec (sheetRefusal sheet ≡ 0) → orElse (sheetRefusal sheet) (sharedRefusal (reading .table)) ≡ orElse (sheetRefusal sheet) (sharedRefusal (tableOf sheet))
+        go (yes good) = ap (λ (t : Table). orElse (sheetRefusal sheet) (sharedRefusal t)) (read-table good)
+        go (no broken) = first-of (sheetRefusal sheet) _ broken ∙ sym (first-of (sheetRefusal sheet) _ broken)
+
+    pub start-refused : (none : Machine) → (refusal ≡ 0 → ⊥) → none ≡ noMachine → record { refusal = refusal; machine = none } ≡ startAnswer sheet
+    unfolding startAnswer
+    start-refused none broken e = rw (← start-judged) (simp (ne-eqb refusal 0 broken, e))
+
+    pub start-passed : (m : Machine) → refusal ≡ 0 → m ≡ machineOf (reading .table) → record { refusal = 0; machine = m } ≡ startAnswer sheet
+    unfolding startAnswer startRefusal
+    start-passed m passed e =
+        let good : startRefusal sheet ≡ 0 = sym start-judged ∙ passed in
+        simp (good, e ∙ ap machineOf (read-table (none-of (sheetRefusal sheet) _ good .0)))
 
 -- a machine of zeros has counted nothing
 none-counted : countsOf noMachine ≡ noCounts
@@ -41,24 +57,24 @@ unfolding countsOf countsFrom unfinishedIn countBelow cellAt isReady oneIf
 none-counted = refl
 
 module _ (sheet log : List ℕ) (started : Run) (start : started ≡ startAnswer sheet) where
-  start-refusal : started .refusal ≡ sheetRefusal sheet
+  start-refusal : started .refusal ≡ startRefusal sheet
   unfolding startAnswer
   start-refusal = ap (λ (r : Run). r .refusal) start
 
   pub replay-refused : (counts : Counts) → (started .refusal ≡ 0 → ⊥) → counts ≡ countsOf (started .machine) → record { refusal = started .refusal; counts = counts } ≡ replayAnswer sheet log
   unfolding replayAnswer replayRefusal startAnswer
   replay-refused counts broken counted =
-      let bad : sheetRefusal sheet ≡ 0 → ⊥ = λ e. broken (start-refusal ∙ e) in
-      let none : started .machine ≡ noMachine = ap (λ (r : Run). r .machine) start ∙ ap (λ (b : Bool). cond b (machineOf (tableOf sheet)) noMachine) (ne-eqb (sheetRefusal sheet) 0 bad) in
-      simp (first-of (sheetRefusal sheet) (logRefusal (machineOf (tableOf sheet)) log) bad, ne-eqb (sheetRefusal sheet) 0 bad, counted ∙ ap countsOf none ∙ none-counted, start-refusal)
+      let bad : startRefusal sheet ≡ 0 → ⊥ = λ e. broken (start-refusal ∙ e) in
+      let none : started .machine ≡ noMachine = ap (λ (r : Run). r .machine) start ∙ ap (λ (b : Bool). cond b (machineOf (tableOf sheet)) noMachine) (ne-eqb (startRefusal sheet) 0 bad) in
+      simp (first-of (startRefusal sheet) (logRefusal (machineOf (tableOf sheet)) log) bad, ne-eqb (startRefusal sheet) 0 bad, counted ∙ ap countsOf none ∙ none-counted, start-refusal)
 
   module _ (passed : started .refusal ≡ 0) (run : Run) (gone : run ≡ goOnAnswer (started .machine) log) where
-    good : sheetRefusal sheet ≡ 0
+    good : startRefusal sheet ≡ 0
     good = sym start-refusal ∙ passed
 
     machine-started : started .machine ≡ machineOf (tableOf sheet)
     unfolding startAnswer
-    machine-started = ap (λ (r : Run). r .machine) start ∙ ap (λ (b : Bool). cond b (machineOf (tableOf sheet)) noMachine) (eq-eqb (sheetRefusal sheet) 0 good)
+    machine-started = ap (λ (r : Run). r .machine) start ∙ ap (λ (b : Bool). cond b (machineOf (tableOf sheet)) noMachine) (eq-eqb (startRefusal sheet) 0 good)
 
     answered : run ≡ goOnAnswer (machineOf (tableOf sheet)) log
     answered = gone ∙ ap (λ (m : Machine). goOnAnswer m log) machine-started

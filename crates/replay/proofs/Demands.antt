@@ -1,16 +1,20 @@
--- Ask 1's demands in its own words, about the definitions that the promises cite. That a log's refusal is the first rule broken, read over positions in the log, is `replay-in-order`; the log of ask 3 is in Rows.antt. Assumes nothing.
+-- Ask 1's demands, with ask 6's refusal 19, in their own words, about the definitions that the promises cite. That a refusal is the first rule broken, a log's read over positions in the log, is `replay-in-order`, and of a start and of going on alone `start-in-order` and `log-in-order` of Order.antt; the log of ask 3 is in Rows.antt. Assumes nothing.
 use Prim.Native.Nat.{ℕ, _+_, _/_, _%_, _^_, _≤_, _<_}
 use mathlib.Core.Path.{_≡_, refl, sym, ap, _∙_}
 use mathlib.Core.Bool.{Bool, true, false, cond, true≢false}
-use mathlib.Core.Logic.{_↔_}
+use mathlib.Core.Logic.{_↔_, ⊎-elim}
 use mathlib.Core.List.{List, [], _∷_, _++_}
+use native.Mathlib.Decide.{ℕ-discrete}
 use native.Mathlib.Omega.{arith}
 use borrow.Author.Tests.{eq-eqb, ne-eqb}
 use lib.Dec.{eqb}
 use lib.ListN.{length, replicate, getD-replicate, length-append}
 use Rattle.sheet.specs.Layout.{recordAt, tableOf}
 use Rattle.sheet.specs.Rules.{sheetRefusal}
+use Rattle.sheet.specs.Broken.{InOrder}
 use Rattle.sheet.proofs.Turns.{next-of, none-of, first-of}
+use Rattle.sheet.proofs.Order.{Says, in-order, sheet-in-order}
+use Rattle.sheet.proofs.Refused.{given-unless}
 use Rattle.sheet.specs.declared.Record.{Record}
 use Rattle.replay.specs.declared.Cell.{Cell}
 use Rattle.replay.specs.declared.Tally.{Tally}
@@ -22,10 +26,10 @@ use Rattle.replay.specs.Runner.{levelOf}
 use Rattle.replay.specs.Step.{runs, worked, struck}
 use Rattle.replay.specs.Counts.{noTally, added, unfinishedIn, countsFrom}
 use Rattle.replay.specs.Machines.{machineOf, noMachine, cellsEntered, runnerOf, cellsRan, tick, ranOver, countsOf}
-use Rattle.replay.specs.Rules.{ticksRefusal, logRefusal}
+use Rattle.replay.specs.Rules.{sharedRefusal, startRefusal, ticksRefusal, logRefusal}
 use Rattle.replay.specs.Answers.{startAnswer, goOnAnswer, replayRefusal, replayAnswer}
 use Rattle.replay.specs.Totals.{totalsOver}
-use Rattle.replay.specs.Positions.{releasesAt, tickRows, LogInOrder}
+use Rattle.replay.specs.Positions.{releasesAt, logRows, LogNumber, startRows, ReplayNumber}
 use Rattle.replay.proofs.Struck.{others-kept, runner-changed}
 use Rattle.replay.proofs.Joined.{accepted, ran-joined, ticks-joined, refusal-joined}
 use Rattle.replay.proofs.Going.{even-ticks}
@@ -38,7 +42,7 @@ use Rattle.replay.proofs.Kept.{GoodTasks, AllTimely, jobs-add-up}
 use Rattle.replay.proofs.Ticked.{ran-at}
 use Rattle.replay.proofs.Countdown.{reaches}
 use Rattle.replay.proofs.History.{machineAt, rest-counts, job-in-time}
-use Rattle.replay.proofs.Order.{log-in-order}
+use Rattle.replay.proofs.Order.{log-positive, log-says, whole-tells, both-in-order}
 
 -- Which job runs, in a machine whose fault priorities are at most 8, as those of every sheet are (`levels-started`)
 module _ (m : Machine) (releases : ℕ) (levels : (place : ℕ) → recordAt (m .tasks) place .«fault_priority» ≤ 8) where
@@ -104,7 +108,7 @@ refused-joined m a b even even′ broken =
     simp (same, ne-eqb (logRefusal m a) 0 broken)
 
 -- a replay is a start, a going on over the whole log, and the counts of where that led
-pub replay-by-parts : (sheet log : List ℕ) → sheetRefusal sheet ≡ 0
+pub replay-by-parts : (sheet log : List ℕ) → startRefusal sheet ≡ 0
     → replayAnswer sheet log ≡ record { refusal = goOnAnswer (startAnswer sheet .machine) log .refusal; counts = countsOf (goOnAnswer (startAnswer sheet .machine) log .machine) }
 unfolding startAnswer
 replay-by-parts sheet log good = sym (replay-gone sheet log (startAnswer sheet) refl good (goOnAnswer (startAnswer sheet .machine) log) refl _ refl)
@@ -117,21 +121,44 @@ nothing-ready : isReady noCell ≡ false
 unfolding isReady
 nothing-ready = refl
 
--- "Refusals, after a sheet's": a sheet that is refused decides
-pub sheet-first : (sheet log : List ℕ) → (sheetRefusal sheet ≡ 0 → ⊥) → replayRefusal sheet log ≡ sheetRefusal sheet
-unfolding replayRefusal
-sheet-first sheet log broken = first-of (sheetRefusal sheet) (logRefusal (machineOf (tableOf sheet)) log) broken
+module _ (sheet log : List ℕ) where
+  -- a start that is refused decides
+  pub start-first : (startRefusal sheet ≡ 0 → ⊥) → replayRefusal sheet log ≡ startRefusal sheet
+  unfolding replayRefusal
+  start-first broken = first-of (startRefusal sheet) (logRefusal (machineOf (tableOf sheet)) log) broken
 
-module _ (sheet log : List ℕ) (good : sheetRefusal sheet ≡ 0) where
-  -- "14 odd length, then tick by tick 15 .. 16 .. 17": over a good sheet the refusal is the first rule broken, in the first tick that breaks one, read over positions in the log
-  pub replay-in-order : LogInOrder log (tickRows (tableOf sheet .count) (tableOf sheet .interval) (recordAt (machineOf (tableOf sheet) .tasks)) log) (replayRefusal sheet log)
-  unfolding machineOf replayRefusal
-  replay-in-order =
-      rw (next-of (logRefusal (machineOf (tableOf sheet)) log) good) (log-in-order (machineOf (tableOf sheet)) log (λ place below. ap (λ (c : Cell). c .wait) (started-free place below)) refl)
+  -- "Refusals, after a sheet's": a sheet that is refused decides
+  pub sheet-first : (sheetRefusal sheet ≡ 0 → ⊥) → replayRefusal sheet log ≡ sheetRefusal sheet
+  unfolding startRefusal
+  sheet-first broken =
+      let same : startRefusal sheet ≡ sheetRefusal sheet = first-of (sheetRefusal sheet) (sharedRefusal (tableOf sheet)) broken in
+      start-first (λ e. broken (sym same ∙ e)) ∙ same
 
-  -- and the task that the rules find at a place is the sheet's record of that priority
-  pub tasks-by-priority : (place : ℕ) → place < tableOf sheet .count → OfTable (tableOf sheet) place (recordAt (machineOf (tableOf sheet) .tasks) place)
-  tasks-by-priority = task-of-sheet sheet good
+  -- what the refusal of the log says of it, where the machine starts anew
+  log-rows : Says LogNumber (logRows (tableOf sheet .count) (tableOf sheet .interval) (recordAt (machineOf (tableOf sheet) .tasks)) log) (logRefusal (machineOf (tableOf sheet)) log)
+  unfolding machineOf
+  log-rows = log-says (machineOf (tableOf sheet)) log (λ place below. ap (λ (c : Cell). c .wait) (started-free place below)) refl
+
+  -- "19, after a sheet's own", then "14 odd length, then tick by tick 15 .. 16 .. 17": the refusal is the first rule broken, a sheet's own first, then 19, then the log's in the first tick that breaks one, read over positions in the log
+  pub replay-in-order : InOrder ReplayNumber (startRows sheet ++ logRows (tableOf sheet .count) (tableOf sheet .interval) (recordAt (machineOf (tableOf sheet) .tasks)) log) (replayRefusal sheet log)
+  unfolding replayRefusal
+  replay-in-order = both-in-order sheet log-rows
+
+  -- "replay gives 19, after a sheet's own, for a shared processor"
+  pub replay-19 : (replayRefusal sheet log ≡ 19) ↔ ((sheetRefusal sheet ≡ 0) × ((tableOf sheet .round ≡ 1) × (tableOf sheet .share ≡ 1) → ⊥))
+  unfolding replayRefusal startRefusal sharedRefusal
+  replay-19 = (λ e. given .0 (go (ℕ-discrete (startRefusal sheet) 0) e), λ h. start-first (λ z. omega (arith, given .1 h)) ∙ given .1 h)
+    where
+      given : (startRefusal sheet ≡ 19) ↔ ((sheetRefusal sheet ≡ 0) × ((tableOf sheet .round ≡ 1) × (tableOf sheet .share ≡ 1) → ⊥))
+      given = given-unless (sheetRefusal sheet) 19 (sheet-in-order sheet .range) (omega arith) (whole-tells (tableOf sheet .round) (tableOf sheet .share))
+
+      go : Dec (startRefusal sheet ≡ 0) → replayRefusal sheet log ≡ 19 → startRefusal sheet ≡ 19
+      go (yes good) e = ⊎-elim (λ z. absurd (omega (arith, z, sym (next-of _ good) ∙ e))) (λ h. absurd (omega (arith, h, sym (next-of _ good) ∙ e))) (in-order log-positive log-rows .range)
+      go (no broken) e = sym (start-first broken) ∙ e
+
+-- the task that the rules find at a place of a good sheet's machine is the sheet's record of that priority
+pub tasks-by-priority : (sheet log : List ℕ) → sheetRefusal sheet ≡ 0 → (place : ℕ) → place < tableOf sheet .count → OfTable (tableOf sheet) place (recordAt (machineOf (tableOf sheet) .tasks) place)
+tasks-by-priority sheet log good = task-of-sheet sheet good
 
 -- "A job still unfinished when its D-th tick, the release tick being the first, ends is dropped": a job that is there before the tick at a time was released less than D ticks before it
 pub job-within-deadline : (sheet log : List ℕ) (place : ℕ) → place < 8 → (time : ℕ) → isReady (cellAt (machineAt (machineOf (tableOf sheet)) log time .cells) place) ≡ true
@@ -153,12 +180,12 @@ module _ (sheet log : List ℕ) (passed : replayRefusal sheet log ≡ 0) where
   counts = replayAnswer sheet log .counts
 
   sheet-passed : sheetRefusal sheet ≡ 0
-  unfolding replayRefusal
-  sheet-passed = none-of (sheetRefusal sheet) (logRefusal start log) passed .0
+  unfolding replayRefusal startRefusal
+  sheet-passed = none-of (sheetRefusal sheet) (sharedRefusal (tableOf sheet)) (none-of (startRefusal sheet) (logRefusal start log) passed .0) .0
 
   log-passed : logRefusal start log ≡ 0
   unfolding replayRefusal
-  log-passed = none-of (sheetRefusal sheet) (logRefusal start log) passed .1
+  log-passed = none-of (startRefusal sheet) (logRefusal start log) passed .1
 
   start-small : Below (2 ^ 64) (start .tally)
   unfolding machineOf

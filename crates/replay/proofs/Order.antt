@@ -1,9 +1,9 @@
--- A log's refusal is given in the ask's order, by the rules read over positions in the log. Assumes nothing.
+-- The refusals of a start, of a log and of a replay are given in the asks' order, a log's by the rules read over positions in it. Assumes nothing.
 use Prim.Native.Nat.{ℕ, zero, suc, _+_, _/_, _%_, _^_, _≤_, _<_}
-use mathlib.Core.Path.{_≡_, refl, sym, subst, _∙_}
-use mathlib.Core.Bool.{Bool, true, false, true≢false}
-use mathlib.Core.Logic.{_⊎_}
-use mathlib.Core.List.{List}
+use mathlib.Core.Path.{_≡_, refl, sym, _∙_}
+use mathlib.Core.Bool.{Bool, true, false, cond, true≢false}
+use mathlib.Core.Logic.{_⊎_, inl, inr}
+use mathlib.Core.List.{List, [], _∷_, _++_}
 use native.Mathlib.Decide.{ℕ-discrete}
 use native.Mathlib.Omega.{arith}
 use native.Mathlib.Nat.{one-mul, le-div-iff-mul-le, div-lt-iff-lt-mul}
@@ -12,16 +12,16 @@ use lib.Dec.{eqb}
 use lib.Count.{leading-top}
 use lib.Pow.{pow-pos, shr-shr}
 use lib.ListN.{length}
-use Rattle.sheet.specs.Places.{someBelow}
-use Rattle.sheet.specs.Layout.{recordAt}
-use Rattle.sheet.specs.Broken.{Row, FirstRecord}
-use Rattle.sheet.proofs.Tells.{Tells, holds, fails, tells, or-tells, not-tells, eqb-tells}
-use Rattle.sheet.proofs.Order.{Judged, SaysBelow, judged-none, judged-row, says-below, record-unique, neither}
+use Rattle.sheet.specs.Places.{orElse, someBelow}
+use Rattle.sheet.specs.Layout.{recordAt, tableOf, isWhole}
+use Rattle.sheet.specs.Broken.{Row, row, InOrder, sheetRows}
+use Rattle.sheet.proofs.Tells.{Tells, holds, fails, tells, or-tells, and-tells, not-tells, eqb-tells}
+use Rattle.sheet.proofs.Order.{Says, none, first, says-none, says-row, says-joined, says-below, in-order, rule-positive, sheet-says}
 use Rattle.replay.specs.declared.Machine.{Machine}
 use Rattle.replay.specs.Tick.{isReleased, isAbove, isMarked, hasOther}
 use Rattle.replay.specs.Cells.{cellAt}
-use Rattle.replay.specs.Rules.{isStrange, isEarly, someEarly, isHasty, tickRefusal, logRefusal}
-use Rattle.replay.specs.Positions.{ticksOf, releasesAt, faultsAt, Sooner, tickRows, LogInOrder}
+use Rattle.replay.specs.Rules.{sharedRefusal, startRefusal, isStrange, isEarly, someEarly, isHasty, tickRefusal, logRefusal}
+use Rattle.replay.specs.Positions.{ticksOf, releasesAt, faultsAt, Sooner, tickRows, logRows, LogNumber, startRows, StartNumber, ReplayNumber}
 use Rattle.replay.proofs.Binary.{twice}
 use Rattle.replay.proofs.Found.{not-holds, some-where, some-found}
 use Rattle.replay.proofs.Going.{odd-refused, even-ticks}
@@ -63,6 +63,9 @@ above-tells x n = tells (isAbove x n) some (λ e w. omega (arith, released-below
         let one : x / 2 ^ n / 2 ^ top .0 < 2 = div-lt-iff-lt-mul (pow-pos (top .0)) .1 (omega (arith, twice (top .0), top .3)) in
         (n + top .0, omega arith, eq-eqb (x / 2 ^ (n + top .0) % 2) 1 (omega (arith, shr-shr x n (top .0))))
 
+pub log-positive : (r : ℕ) → LogNumber r → 0 < r
+log-positive r k = omega arith
+
 module _ (m : Machine) (log : List ℕ) (free : (place : ℕ) → place < 8 → cellAt (m .cells) place .wait ≡ 0) (calm : m .gap ≡ 0) where
   abbrev rows : ℕ → List Row
   rows = tickRows (m .count) (m .interval) (recordAt (m .tasks)) log
@@ -81,35 +84,54 @@ module _ (m : Machine) (log : List ℕ) (free : (place : ℕ) → place < 8 → 
   unfolding isHasty
   hasty-tells time = rw (gap-counts m log calm time) (sooner-tells (λ t. isMarked (faultsAt log t)) (m .interval) time)
 
-  tick-judged : (time : ℕ) → Judged (rows time) 14 17 (refusalAt m log time)
+  tick-says : (time : ℕ) → Says LogNumber (rows time) (refusalAt m log time)
   unfolding tickRows tickRefusal
-  tick-judged time =
-      judged-row (omega arith) (strange-tells time) (judged-row (omega arith) (early-tells time) (judged-row (omega arith) (hasty-tells time) judged-none))
+  tick-says time =
+      says-row (omega arith) (strange-tells time) (λ plain. says-row (omega arith) (early-tells time) (λ late. says-row (omega arith) (hasty-tells time) (λ spaced. says-none)))
 
-  ticks-in-order : length log % 2 ≡ 0 → {r : ℕ} → SaysBelow (ticksOf log) rows r → LogInOrder log rows r
-  ticks-in-order even (SaysBelow.none-below f) =
-      record {
-        odd-order = neither (λ e. omega arith) (λ odd. odd even);
-        ticks-order = λ r low high. neither (λ e. omega arith) (λ w. f (w .1 .place) (w .1 .below) r (w .1 .first .broken));
-        good-order = (λ e. (even, f), λ w. refl);
-      }
-  ticks-in-order even (SaysBelow.first-below {r = r} w) =
-      let within = tick-judged (w .place) .numbers r (w .first .broken) in
-      record {
-        odd-order = neither (λ e. omega arith) (λ odd. odd even);
-        ticks-order = λ x low high. (λ e. (even, subst (FirstRecord (ticksOf log) rows) e w), λ v. record-unique w (v .1));
-        good-order = neither (λ e. omega arith) (λ v. v .1 (w .place) (w .below) r (w .first .broken));
-      }
-
-  pub log-in-order : LogInOrder log rows (logRefusal m log)
-  log-in-order = go (ℕ-discrete (length log % 2) 0)
+  -- what a log's refusal says of its rows
+  pub log-says : Says LogNumber (logRows (m .count) (m .interval) (recordAt (m .tasks)) log) (logRefusal m log)
+  log-says = go (ℕ-discrete (length log % 2) 0)
     where
-      go : Dec (length log % 2 ≡ 0) → LogInOrder log rows (logRefusal m log)
-      go (yes even) = rw (even-ticks m log even, ticks-first m log) (ticks-in-order even (says-below rows (refusalAt m log) 14 17 tick-judged (ticksOf log)))
-      go (no odd) =
-          rw (odd-refused m log odd)
-          (record {
-            odd-order = (λ e. odd, λ o. refl);
-            ticks-order = λ r low high. neither (λ e. omega arith) (λ w. odd (w .0));
-            good-order = neither (λ e. omega arith) (λ w. odd (w .0));
-          })
+      go : Dec (length log % 2 ≡ 0) → Says LogNumber (logRows (m .count) (m .interval) (recordAt (m .tasks)) log) (logRefusal m log)
+      go (yes even) = rw (even-ticks m log even, ticks-first m log) (says-row {b = false} {number = 14} (omega arith) (fails (λ odd. odd even)) (λ n. says-below log-positive rows (refusalAt m log) tick-says (ticksOf log)))
+      go (no odd) = rw (odd-refused m log odd) (first {r = 14} (omega arith) (inl (refl, odd)))
+
+  -- a log's refusal is given in the order of its rows
+  pub log-in-order : InOrder LogNumber (logRows (m .count) (m .interval) (recordAt (m .tasks)) log) (logRefusal m log)
+  log-in-order = in-order log-positive log-says
+
+-- what a number says of rows it says with more numbers allowed
+says-wider : {Some More : ℕ → Type 0} {rows : List Row} {r : ℕ} → ((n : ℕ) → Some n → More n) → Says Some rows r → Says More rows r
+says-wider wider (none f) = none f
+says-wider wider (first {r = r} k f) = first (wider r k) f
+
+start-positive : (r : ℕ) → StartNumber r → 0 < r
+start-positive r (inl k) = rule-positive r k
+start-positive r (inr e) = omega arith
+
+replay-positive : (r : ℕ) → ReplayNumber r → 0 < r
+replay-positive r (inl k) = start-positive r k
+replay-positive r (inr k) = log-positive r k
+
+-- `isWhole` tells that round and share are both 1
+pub whole-tells : (round share : ℕ) → Tells ((round ≡ 1) × (share ≡ 1)) (isWhole round share)
+unfolding isWhole
+whole-tells round share = and-tells (eqb-tells round 1) (eqb-tells share 1)
+
+-- what the refusal of a start says of the sheet's rows
+start-says : (sheet : List ℕ) → Says StartNumber (startRows sheet) (startRefusal sheet)
+unfolding startRefusal sharedRefusal
+start-says sheet = says-joined start-positive (sheetRows sheet) _ (says-wider (λ r k. inl k) (sheet-says sheet)) (go (whole-tells (tableOf sheet .round) (tableOf sheet .share)))
+  where
+    go : {b : Bool} → Tells ((tableOf sheet .round ≡ 1) × (tableOf sheet .share ≡ 1)) b → Says StartNumber (row 19 ((tableOf sheet .round ≡ 1) × (tableOf sheet .share ≡ 1) → ⊥) ∷ []) (cond b 0 19)
+    go (holds whole) = none (λ shared. shared whole, tt)
+    go (fails shared) = first (inr refl) (inl (refl, shared))
+
+-- the refusal of a start is given in the order of the sheet's rows
+pub start-in-order : (sheet : List ℕ) → InOrder StartNumber (startRows sheet) (startRefusal sheet)
+start-in-order sheet = in-order start-positive (start-says sheet)
+
+-- that of a start, or else of a log, is given in the order of the sheet's rows and then the log's
+pub both-in-order : (sheet : List ℕ) {rows : List Row} {r : ℕ} → Says LogNumber rows r → InOrder ReplayNumber (startRows sheet ++ rows) (orElse (startRefusal sheet) r)
+both-in-order sheet says = in-order replay-positive (says-joined replay-positive (startRows sheet) _ (says-wider (λ r k. inl k) (start-says sheet)) (says-wider (λ r k. inr k) says))

@@ -5,15 +5,15 @@ use mathlib.Core.List.{List, [], _∷_}
 use lib.ListN.{take}
 use Rattle.sheet.specs.Places.{orElse, firstBelow, someBelow, filledBelow}
 use Rattle.sheet.specs.Packing.{regrouped}
-use Rattle.sheet.specs.Layout.{headerOf, countOf, reservedOf, intervalOf, sizeOf, partOf, recordFrom, recordOf, sheetRecord, recordAt, room, tableOf}
-use Rattle.sheet.specs.Rules.{outside, taken, refusalOf, recordRefusal, recordsRefusal, headerRefusal, sheetRefusal}
+use Rattle.sheet.specs.Layout.{headerOf, countOf, editionOf, intervalOf, roundOf, shareOf, startOf, sizeOf, isWhole, partOf, recordFrom, recordOf, sheetRecord, recordAt, room, tableOf}
+use Rattle.sheet.specs.Rules.{outside, wrongShare, taken, refusalOf, recordRefusal, recordsRefusal, headerRefusal, sheetRefusal}
 use Rattle.replay.specs.Tick.{isReleased, isAbove, isMarked, hasOther}
 use Rattle.replay.specs.Cells.{cellAt, eight, isReady, oneIf, countBelow}
 use Rattle.replay.specs.Runner.{highest, levelOf, isAt, topLevel, topBackup, runner}
 use Rattle.replay.specs.Step.{entered, runs, ran, faulted, isLast, isMissed, ended, gapAfter}
 use Rattle.replay.specs.Counts.{cellOf, gains, added, unfinishedIn, countsFrom}
 use Rattle.replay.specs.Machines.{withPriority, byPriority, machineOf, cellsEntered, runnerOf, cellsRan, tickGains, tick, ranOver, countsOf}
-use Rattle.replay.specs.Rules.{isStrange, isEarly, someEarly, isHasty, tickRefusal, ticksRefusal, logRefusal}
+use Rattle.replay.specs.Rules.{sharedRefusal, startRefusal, isStrange, isEarly, someEarly, isHasty, tickRefusal, ticksRefusal, logRefusal}
 use Rattle.replay.specs.Answers.{replayRefusal, replayAnswer}
 
 -- "Tasks (C, B, D, T, p, q): 4 4 100 100 3 1; 2 1 7 7 2 2; 1 1 100 100 1 1; E = 100."
@@ -32,10 +32,10 @@ leftAfter bytes = cellAt (ranOver (machineOf (tableOf sheet)) (take bytes log) .
 
 -- the seven counts of the twelve ticks
 pub log-counts : replayAnswer sheet log ≡ record { refusal = 0; counts = record { «first_attempts» = 8; backups = 4; idle = 0; released = 4; finished = 3; missed = 0; unfinished = 1 } }
-unfolding sheet log orElse firstBelow someBelow filledBelow regrouped headerOf countOf reservedOf intervalOf sizeOf partOf recordFrom recordOf sheetRecord recordAt room tableOf outside taken refusalOf recordRefusal recordsRefusal headerRefusal sheetRefusal isReleased isAbove isMarked hasOther cellAt eight isReady oneIf countBelow highest levelOf isAt topLevel topBackup runner entered runs ran faulted isLast isMissed ended gapAfter cellOf gains added unfinishedIn countsFrom withPriority byPriority machineOf cellsEntered runnerOf cellsRan tickGains tick ranOver countsOf isStrange isEarly someEarly isHasty tickRefusal ticksRefusal logRefusal replayRefusal replayAnswer
+unfolding sheet log orElse firstBelow someBelow filledBelow regrouped headerOf countOf editionOf intervalOf roundOf shareOf startOf sizeOf isWhole partOf recordFrom recordOf sheetRecord recordAt room tableOf outside wrongShare taken refusalOf recordRefusal recordsRefusal headerRefusal sheetRefusal sharedRefusal startRefusal isReleased isAbove isMarked hasOther cellAt eight isReady oneIf countBelow highest levelOf isAt topLevel topBackup runner entered runs ran faulted isLast isMissed ended gapAfter cellOf gains added unfinishedIn countsFrom withPriority byPriority machineOf cellsEntered runnerOf cellsRan tickGains tick ranOver countsOf isStrange isEarly someEarly isHasty tickRefusal ticksRefusal logRefusal replayRefusal replayAnswer
 log-counts = refl
 
 -- "the first finishes at 12": it has one tick left after eleven, and none after twelve
 pub first-done : (leftAfter 22 ≡ 1) × (leftAfter 24 ≡ 0)
-unfolding leftAfter sheet log someBelow filledBelow regrouped headerOf countOf intervalOf partOf recordFrom recordOf sheetRecord recordAt room tableOf isReleased isMarked cellAt eight isReady oneIf countBelow highest levelOf isAt topLevel topBackup runner entered runs ran faulted isLast isMissed ended gapAfter cellOf gains added withPriority byPriority machineOf cellsEntered runnerOf cellsRan tickGains tick ranOver
+unfolding leftAfter sheet log someBelow filledBelow regrouped headerOf countOf editionOf intervalOf startOf partOf recordFrom recordOf sheetRecord recordAt room tableOf isReleased isMarked cellAt eight isReady oneIf countBelow highest levelOf isAt topLevel topBackup runner entered runs ran faulted isLast isMissed ended gapAfter cellOf gains added withPriority byPriority machineOf cellsEntered runnerOf cellsRan tickGains tick ranOver
 first-done = (refl, refl)

@@ -5,17 +5,16 @@ use mathlib.Core.List.{List}
 use lib.Dec.{eqb}
 use Rattle.sheet.specs.Places.{orElse}
 use Rattle.sheet.specs.Layout.{tableOf}
-use Rattle.sheet.specs.Rules.{sheetRefusal}
 use Rattle.replay.specs.declared.Machine.{Machine}
 use Rattle.replay.specs.declared.Run.{Run}
 use Rattle.replay.specs.declared.Replayed.{Replayed}
 use Rattle.replay.specs.Counts.{noCounts}
 use Rattle.replay.specs.Machines.{machineOf, noMachine, ranOver, countsOf}
-use Rattle.replay.specs.Rules.{logRefusal}
+use Rattle.replay.specs.Rules.{startRefusal, logRefusal}
 
--- `Machine::start`: the sheet's refusal beside its machine, a machine of zeros where it is refused
+-- `Machine::start`: the sheet's refusal, its own or 19, beside its machine, a machine of zeros where it is refused
 unfoldable pub startAnswer : List ℕ → Run
-startAnswer sheet = record { refusal = sheetRefusal sheet; machine = cond (eqb (sheetRefusal sheet) 0) (machineOf (tableOf sheet)) noMachine }
+startAnswer sheet = record { refusal = startRefusal sheet; machine = cond (eqb (startRefusal sheet) 0) (machineOf (tableOf sheet)) noMachine }
 
 -- `Machine::go_on`: the refusal of the part beside the machine after it, a machine of zeros where it is refused
 unfoldable pub goOnAnswer : Machine → List ℕ → Run
@@ -23,7 +22,7 @@ goOnAnswer m part = record { refusal = logRefusal m part; machine = cond (eqb (l
 
 -- the refusal of a replay: the sheet's, then the log's
 unfoldable pub replayRefusal : List ℕ → List ℕ → ℕ
-replayRefusal sheet log = orElse (sheetRefusal sheet) (logRefusal (machineOf (tableOf sheet)) log)
+replayRefusal sheet log = orElse (startRefusal sheet) (logRefusal (machineOf (tableOf sheet)) log)
 
 -- `replay`: the refusal beside the seven counts, zeros where it is refused
 unfoldable pub replayAnswer : List ℕ → List ℕ → Replayed

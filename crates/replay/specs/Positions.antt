@@ -1,12 +1,14 @@
--- The rules of a log said over its ticks, counted from 0, by what the log itself marks: no machine and no countdown. A second reading, which the refusals are proved to follow; no public promise cites it.
+-- The rules of a log said over its ticks, counted from 0, by what the log itself marks: no machine and no countdown; and those of a replay, row by row in the order they are tried. A second reading, which the refusals are proved to follow; no public promise cites it.
 use Prim.Native.Nat.{ℕ, _+_, _*_, _/_, _%_, _≤_, _<_}
 use mathlib.Core.Path.{_≡_}
 use mathlib.Core.Bool.{Bool, true}
-use mathlib.Core.Logic.{_⊎_, _↔_}
-use mathlib.Core.List.{List, [], _∷_}
+use mathlib.Core.Logic.{_⊎_}
+use mathlib.Core.List.{List, [], _∷_, _++_}
 use lib.ListN.{length, getD}
 use Rattle.sheet.specs.declared.Record.{Record}
-use Rattle.sheet.specs.Broken.{Row, row, NoneBroken, FirstRecord}
+use Rattle.sheet.specs.Places.{joinedBelow}
+use Rattle.sheet.specs.Layout.{tableOf}
+use Rattle.sheet.specs.Broken.{Row, row, RuleNumber, sheetRows}
 use Rattle.replay.specs.Tick.{isReleased, isMarked}
 
 -- "A log has two bytes per tick"
@@ -34,11 +36,22 @@ tickRows n interval tasks log time =
     row 17 (Sooner (λ t. isMarked (faultsAt log t)) interval time) ∷
     []
 
--- "14 odd length, then tick by tick 15 .. 16 .. 17": what each value of a log's refusal means
-pub record LogInOrder (log : List ℕ) (rows : ℕ → List Row) (refusal : ℕ) : Type 0 where
-  -- it is 14 exactly when the length is odd
-  pub odd-order : (refusal ≡ 14) ↔ (length log % 2 ≡ 0 → ⊥)
-  -- it is one of 15 to 17 exactly when the length is even, and that is the first rule broken in the first tick that breaks one
-  pub ticks-order : (r : ℕ) → 15 ≤ r → r ≤ 17 → (refusal ≡ r) ↔ ((length log % 2 ≡ 0) × FirstRecord (ticksOf log) rows r)
-  -- it is 0 exactly when the length is even and no tick breaks a rule
-  pub good-order : (refusal ≡ 0) ↔ ((length log % 2 ≡ 0) × ((time : ℕ) → time < ticksOf log → NoneBroken (rows time)))
+-- what is tried on a log: "14 odd length, then tick by tick 15 .. 16 .. 17"
+abbrev pub logRows : ℕ → ℕ → (ℕ → Record) → List ℕ → List Row
+logRows n interval tasks log = row 14 (length log % 2 ≡ 0 → ⊥) ∷ joinedBelow (tickRows n interval tasks log) (ticksOf log)
+
+-- the numbers of its rows
+abbrev pub LogNumber : ℕ → Type 0
+LogNumber r = (14 ≤ r) × (r ≤ 17)
+
+-- what is tried on a sheet: its own rules, and "19, after a sheet's own, for a shared processor", which is any but Q = S = 1
+abbrev pub startRows : List ℕ → List Row
+startRows sheet = sheetRows sheet ++ row 19 ((tableOf sheet .round ≡ 1) × (tableOf sheet .share ≡ 1) → ⊥) ∷ []
+
+-- the numbers of its rows
+abbrev pub StartNumber : ℕ → Type 0
+StartNumber r = RuleNumber r ⊎ (r ≡ 19)
+
+-- the numbers of the rows of a replay, a sheet's and then a log's
+abbrev pub ReplayNumber : ℕ → Type 0
+ReplayNumber r = StartNumber r ⊎ LogNumber r

@@ -1,15 +1,26 @@
--- "Refusals, after a sheet's": 14, then tick by tick 15, 16 and 17.
+-- "Refusals, after a sheet's": 19, then 14, then tick by tick 15, 16 and 17.
 use Prim.Native.Nat.{ℕ, _%_}
 use mathlib.Core.Bool.{Bool, cond, not, _&&_, _||_}
 use mathlib.Core.List.{List, [], _∷_}
 use lib.Dec.{eqb}
 use lib.ListN.{length}
+use Rattle.sheet.specs.declared.Table.{Table}
 use Rattle.sheet.specs.Places.{orElse, someBelow}
+use Rattle.sheet.specs.Layout.{isWhole, tableOf}
+use Rattle.sheet.specs.Rules.{sheetRefusal}
 use Rattle.replay.specs.declared.Cell.{Cell}
 use Rattle.replay.specs.declared.Machine.{Machine}
 use Rattle.replay.specs.Tick.{isReleased, isAbove, isMarked, hasOther}
 use Rattle.replay.specs.Cells.{cellAt}
 use Rattle.replay.specs.Machines.{tick}
+
+-- "Ask 1's replay takes whole-processor sheets only": 19 "for a shared processor"
+unfoldable pub sharedRefusal : Table → ℕ
+sharedRefusal t = cond (isWhole (t .round) (t .share)) 0 19
+
+-- what a sheet is refused for: "19, after a sheet's own"
+unfoldable pub startRefusal : List ℕ → ℕ
+startRefusal sheet = orElse (sheetRefusal sheet) (sharedRefusal (tableOf sheet))
 
 -- 15 "a release bit above n or one of the seven bits set"
 unfoldable pub isStrange : ℕ → ℕ → ℕ → Bool

@@ -66,19 +66,19 @@ pub struct Replayed {
 }
 
 impl Machine {
-    // The machine of a good sheet before the first tick.
+    // The machine of a good whole-processor sheet before the first tick.
     pub fn start(sheet: &[u8]) -> Run
         ensures { λ r. ⌜ r ≡ startAnswer (now (sheet .entry)) ⌝ }
     {
         let reading = sheet::read(sheet);
-        let refusal = reading.refusal;
+        let table = reading.table;
+        let refusal = rules::judge_start(reading.refusal, table.round, table.share);
         if refusal != 0 {
             return Run {
                 refusal,
                 machine: ticking::no_machine(),
             };
         }
-        let table = reading.table;
         Run {
             refusal: 0,
             machine: ticking::machine_of(table),

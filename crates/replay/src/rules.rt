@@ -1,11 +1,31 @@
-// The rules that a tick of a log is judged by: 15, 16, 17, in that order.
+// The rules that a replay is judged by: 19 after the sheet's own, and for each tick of the log 15, 16, 17, in that order.
 ghost use mathlib.Core.Path.{_≡_};
+ghost use mathlib.Core.Bool.{cond};
 ghost use Prim.Native.Nat.{_<_};
+ghost use Rattle.sheet.specs.Places.{orElse};
+ghost use Rattle.sheet.specs.Layout.{isWhole};
 ghost use Rattle.replay.specs.Cells.{cellAt};
 ghost use Rattle.replay.specs.Rules.{isStrange, isEarly, someEarly, isHasty, tickRefusal};
 use crate::Cell;
 use crate::Machine;
 use crate::bits;
+
+// Whether the round and the share are those of the whole processor.
+fn is_whole(round: u16, share: u16) -> bool
+    ensures { λ r. ⌜ r ≡ isWhole round share ⌝ }
+{
+    (round == 1) & (share == 1)
+}
+
+// The sheet's own refusal, or else 19 for a shared processor, or 0.
+pub fn judge_start(refusal: u8, round: u16, share: u16) -> u8
+    ensures { λ r. ⌜ r ≡ orElse refusal (cond (isWhole round share) 0 19) ⌝ }
+{
+    if refusal != 0 {
+        return refusal;
+    }
+    if is_whole(round, share) { 0 } else { 19 }
+}
 
 // Whether a place is released that has to wait.
 fn is_early(releases: u8, place: usize, cell: Cell) -> bool

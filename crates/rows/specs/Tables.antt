@@ -1,4 +1,4 @@
--- Tables from their fields, counted from 1: the count, the interval, and six for each record; and those that a row replaces.
+-- Tables from their fields, counted from 1: the count, the interval, six for each record, the round and the share; and those that a row replaces.
 use Prim.Native.Nat.{ℕ, zero, suc, _+_, _*_, _/_, _%_}
 use mathlib.Core.Bool.{cond}
 use mathlib.Core.List.{List, [], _∷_}
@@ -9,13 +9,13 @@ use Rattle.sheet.specs.declared.Table.{Table}
 use Rattle.sheet.specs.Places.{filledBelow}
 use Rattle.rows.specs.Lists.{figureOf}
 
--- the figures of a base's only row, each in sixteen bits
+-- the figures of a base's only row, each in sixteen bits, and 1 for the round and the share
 unfoldable pub fieldsOf : List ℕ → List ℕ
-fieldsOf base = filledBelow (λ field. figureOf base 0 field % 65536) 51 (replicate 51 0)
+fieldsOf base = filledBelow (λ field. figureOf base 0 field % 65536) 51 (replicate 53 1)
 
 -- the place of a field by its number, or 0, where no field stands
 unfoldable pub slotOf : ℕ → ℕ
-slotOf field = cond (ltb field 51) field 0
+slotOf field = cond (ltb field 53) field 0
 
 -- the fields with as many replaced as there are pairs of figures of a row from a figure on: a field's number, and its value in sixteen bits
 unfoldable pub replacedTo : List ℕ → List ℕ → ℕ → ℕ → ℕ → List ℕ
@@ -45,6 +45,8 @@ tableOf fields =
     record {
       count = getD fields 1 0 % 256;
       interval = getD fields 2 0;
+      round = getD fields 51 0;
+      share = getD fields 52 0;
       records = recordOf fields 3 ∷ recordOf fields 9 ∷ recordOf fields 15 ∷ recordOf fields 21 ∷ recordOf fields 27 ∷ recordOf fields 33 ∷ recordOf fields 39 ∷ recordOf fields 45 ∷ [];
     }
 

@@ -1,4 +1,4 @@
-// Tables from their fields, which are counted from 1: the count, the interval, and six for each record.
+// Tables from their fields, which are counted from 1: the count, the interval, six for each record, the round and the share.
 ghost use Prim.Native.Nat.{_%_, _≤_, _<_};
 ghost use mathlib.Core.Path.{_≡_};
 ghost use Rattle.rows.specs.Tables.{fieldsOf, slotOf, patchedBy, recordOf, tableOf};
@@ -7,13 +7,13 @@ use sheet::Record;
 use sheet::Table;
 
 // A table's fields, each at its number; what stands at 0 is no field.
-pub type Fields = [u16; 51];
+pub type Fields = [u16; 53];
 
-// The figures of a base's only row, as a table's fields.
+// The figures of a base's only row, as a table's fields; the round and the share are 1, the whole processor.
 pub fn fields_of(base: &[u8]) -> Fields
     ensures { λ r. ⌜ r ≡ fieldsOf (now (base .entry)) ⌝ }
 {
-    let mut fields = [0u16; 51];
+    let mut fields = [1u16; 53];
     let mut field: usize = 0;
     while field < 51 {
         fields[field] = short(list::figure(base, 0, field));
@@ -31,9 +31,9 @@ fn short(figure: u64) -> u16
 
 // The place of a field by its number, or 0, where no field stands.
 fn slot(field: u64) -> usize
-    ensures { λ r. ⌜ (r ≡ slotOf field) × (r < 51) ⌝ }
+    ensures { λ r. ⌜ (r ≡ slotOf field) × (r < 53) ⌝ }
 {
-    if field < 51 { field as usize } else { 0 }
+    if field < 53 { field as usize } else { 0 }
 }
 
 // The fields with those replaced that a row gives from a figure on: a field's number, and its value, eight times at most.
@@ -73,6 +73,8 @@ pub fn table(fields: Fields) -> Table
     Table {
         count: (fields[1] % 256) as u8,
         interval: fields[2],
+        round: fields[51],
+        share: fields[52],
         records: [
             record(fields, 3),
             record(fields, 9),

@@ -2,7 +2,7 @@
 -- Assumes nothing.
 use Prim.Native.Nat.{ℕ, suc, _≤_, _<_}
 use mathlib.Core.Path.{_≡_, refl, _∙_}
-use mathlib.Core.Bool.{Bool, true, false, cond, not, _||_, true≢false}
+use mathlib.Core.Bool.{Bool, true, false, cond, not, _||_}
 use mathlib.Core.List.{List}
 use native.Mathlib.Nat.{suc-ne-zero}
 use native.Mathlib.Omega.{arith}
@@ -11,19 +11,16 @@ use lib.Dec.{eqb, ltb}
 use lib.ListN.{length}
 use Rattle.sheet.specs.declared.Record.{Record}
 use Rattle.sheet.specs.declared.Table.{Table}
-use Rattle.sheet.specs.Layout.{countOf, reservedOf, intervalOf, sizeOf, sheetRecord, recordAt}
-use Rattle.sheet.specs.Rules.{outside, taken, refusalOf, recordRefusal, recordsRefusal, headerRefusal, sheetRefusal, tableRefusal}
+use Rattle.sheet.specs.Layout.{countOf, editionOf, intervalOf, roundOf, shareOf, startOf, sizeOf, tableEdition, tableSize, sheetRecord, recordAt}
+use Rattle.sheet.specs.Rules.{outside, wrongShare, taken, refusalOf, recordRefusal, recordsRefusal, headerRefusal, sheetRefusal, tableRefusal}
 use Rattle.sheet.specs.Answers.{placeRefusal, writeRefusal}
 use Rattle.sheet.proofs.Turns.{next-of, first-of, none-of, first-all}
+use Rattle.sheet.proofs.Editions.{neither}
 
 -- a chain of tests that gave 0 failed at its first test, and gave 0 after it
 passed : (b : Bool) (n r : ℕ) → cond b (suc n) r ≡ 0 → (b ≡ false) × (r ≡ 0)
 passed true n r e = absurd (suc-ne-zero n e)
 passed false n r e = (refl, e)
-
-neither : (a b : Bool) → (a || b) ≡ false → (a ≡ false) × (b ≡ false)
-neither true b e = absurd (true≢false e)
-neither false b e = (refl, e)
 
 -- what is not outside lies from 1 to the limit
 pub within : (x limit : ℕ) → outside x limit ≡ false → (1 ≤ x) × (x ≤ limit)
@@ -111,46 +108,67 @@ module _ (s : List ℕ) where
     header-2 b = simp (le-ltb (length s) 3 a, b)
 
     module _ (b : outside (countOf s) 8 ≡ false) where
-      pub header-3 : (reservedOf s ≡ 0 → ⊥) → 3 ≡ headerRefusal s
+      pub header-3 : 1 < editionOf s → 3 ≡ headerRefusal s
       unfolding headerRefusal
-      header-3 d = simp (le-ltb (length s) 3 a, b, ne-eqb (reservedOf s) 0 d)
+      header-3 d = simp (le-ltb (length s) 3 a, b, lt-ltb 1 (editionOf s) d)
 
-      module _ (d : reservedOf s ≡ 0) where
-        pub header-4 : (length s ≡ sizeOf (countOf s) → ⊥) → 4 ≡ headerRefusal s
+      module _ (d : editionOf s ≤ 1) where
+        pub header-1-again : length s < startOf s → 1 ≡ headerRefusal s
         unfolding headerRefusal
-        header-4 e = simp (le-ltb (length s) 3 a, b, eq-eqb (reservedOf s) 0 d, ne-eqb (length s) (sizeOf (countOf s)) e)
+        header-1-again h = simp (le-ltb (length s) 3 a, b, le-ltb 1 (editionOf s) d, lt-ltb (length s) (startOf s) h)
 
-        module _ (e : length s ≡ sizeOf (countOf s)) where
-          pub header-5 : intervalOf s ≡ 0 → 5 ≡ headerRefusal s
+        module _ (h : startOf s ≤ length s) where
+          pub header-4 : (length s ≡ sizeOf (editionOf s) (countOf s) → ⊥) → 4 ≡ headerRefusal s
           unfolding headerRefusal
-          header-5 f = simp (le-ltb (length s) 3 a, b, eq-eqb (reservedOf s) 0 d, eq-eqb (length s) (sizeOf (countOf s)) e, eq-eqb (intervalOf s) 0 f)
+          header-4 e = simp (le-ltb (length s) 3 a, b, le-ltb 1 (editionOf s) d, le-ltb (length s) (startOf s) h, ne-eqb (length s) (sizeOf (editionOf s) (countOf s)) e)
 
-          pub header-good : (intervalOf s ≡ 0 → ⊥) → 0 ≡ headerRefusal s
-          unfolding headerRefusal
-          header-good f = simp (le-ltb (length s) 3 a, b, eq-eqb (reservedOf s) 0 d, eq-eqb (length s) (sizeOf (countOf s)) e, ne-eqb (intervalOf s) 0 f)
+          module _ (e : length s ≡ sizeOf (editionOf s) (countOf s)) where
+            pub header-5 : intervalOf s ≡ 0 → 5 ≡ headerRefusal s
+            unfolding headerRefusal
+            header-5 f =
+                simp (le-ltb (length s) 3 a, b, le-ltb 1 (editionOf s) d, le-ltb (length s) (startOf s) h, eq-eqb (length s) (sizeOf (editionOf s) (countOf s)) e, eq-eqb (intervalOf s) 0 f)
 
--- what a header that none of the rules 1 to 5 refuses is known for
+            module _ (f : intervalOf s ≡ 0 → ⊥) where
+              -- after 5 the share decides
+              pub header-share : cond (wrongShare (editionOf s) (roundOf s) (shareOf s)) 18 0 ≡ headerRefusal s
+              unfolding headerRefusal
+              header-share =
+                  simp (le-ltb (length s) 3 a, b, le-ltb 1 (editionOf s) d, le-ltb (length s) (startOf s) h, eq-eqb (length s) (sizeOf (editionOf s) (countOf s)) e, ne-eqb (intervalOf s) 0 f)
+
+              pub header-18 : wrongShare (editionOf s) (roundOf s) (shareOf s) ≡ true → 18 ≡ headerRefusal s
+              header-18 g = simp g at header-share
+
+              pub header-good : wrongShare (editionOf s) (roundOf s) (shareOf s) ≡ false → 0 ≡ headerRefusal s
+              header-good g = simp g at header-share
+
+-- what a header that is not refused is known for
 pub record GoodHeader (s : List ℕ) : Type 0 where
   pub long : 3 ≤ length s
   pub count : (1 ≤ countOf s) × (countOf s ≤ 8)
-  pub reserved : reservedOf s ≡ 0
-  pub size : length s ≡ sizeOf (countOf s)
+  pub edition : editionOf s ≤ 1
+  pub header : startOf s ≤ length s
+  pub size : length s ≡ sizeOf (editionOf s) (countOf s)
   pub interval : intervalOf s ≡ 0 → ⊥
+  pub share : wrongShare (editionOf s) (roundOf s) (shareOf s) ≡ false
 
 pub good-header : (s : List ℕ) → headerRefusal s ≡ 0 → GoodHeader s
 unfolding headerRefusal
 good-header s e =
     let one = passed (ltb (length s) 3) 0 _ e in
     let two = passed (outside (countOf s) 8) 1 _ (one .1) in
-    let three = passed (not (eqb (reservedOf s) 0)) 2 _ (two .1) in
-    let four = passed (not (eqb (length s) (sizeOf (countOf s)))) 3 _ (three .1) in
+    let three = passed (ltb 1 (editionOf s)) 2 _ (two .1) in
+    let again = passed (ltb (length s) (startOf s)) 0 _ (three .1) in
+    let four = passed (not (eqb (length s) (sizeOf (editionOf s) (countOf s)))) 3 _ (again .1) in
     let five = passed (eqb (intervalOf s) 0) 4 _ (four .1) in
+    let last = passed (wrongShare (editionOf s) (roundOf s) (shareOf s)) 17 _ (five .1) in
     record {
       long = ltb-false (length s) 3 (one .0);
       count = within (countOf s) 8 (two .0);
-      reserved = eqb-true (reservedOf s) 0 (not-false (eqb (reservedOf s) 0) (three .0));
-      size = eqb-true (length s) (sizeOf (countOf s)) (not-false (eqb (length s) (sizeOf (countOf s))) (four .0));
+      edition = ltb-false 1 (editionOf s) (three .0);
+      header = ltb-false (length s) (startOf s) (again .0);
+      size = eqb-true (length s) (sizeOf (editionOf s) (countOf s)) (not-false (eqb (length s) (sizeOf (editionOf s) (countOf s))) (four .0));
       interval = eqb-false (intervalOf s) 0 (five .0);
+      share = last .0;
     }
 
 -- the refusals of a table by value
@@ -164,14 +182,20 @@ module _ (t : Table) where
     unfolding tableRefusal
     table-5 b = simp (a, eq-eqb (t .interval) 0 b)
 
-    pub table-records : (t .interval ≡ 0 → ⊥) → recordsRefusal (t .count) (recordAt (t .records)) ≡ tableRefusal t
-    unfolding tableRefusal
-    table-records b = simp (a, ne-eqb (t .interval) 0 b)
+    module _ (b : t .interval ≡ 0 → ⊥) where
+      pub table-18 : wrongShare (tableEdition t) (t .round) (t .share) ≡ true → 18 ≡ tableRefusal t
+      unfolding tableRefusal
+      table-18 d = simp (a, ne-eqb (t .interval) 0 b, d)
+
+      pub table-records : wrongShare (tableEdition t) (t .round) (t .share) ≡ false → recordsRefusal (t .count) (recordAt (t .records)) ≡ tableRefusal t
+      unfolding tableRefusal
+      table-records d = simp (a, ne-eqb (t .interval) 0 b, d)
 
 -- what a table that is not refused is known for
 pub record GoodTable (t : Table) : Type 0 where
   pub count : (1 ≤ t .count) × (t .count ≤ 8)
   pub interval : t .interval ≡ 0 → ⊥
+  pub share : wrongShare (tableEdition t) (t .round) (t .share) ≡ false
   pub records : recordsRefusal (t .count) (recordAt (t .records)) ≡ 0
 
 pub good-table : (t : Table) → tableRefusal t ≡ 0 → GoodTable t
@@ -179,10 +203,12 @@ unfolding tableRefusal
 good-table t e =
     let two = passed (outside (t .count) 8) 1 _ e in
     let five = passed (eqb (t .interval) 0) 4 _ (two .1) in
+    let last = passed (wrongShare (tableEdition t) (t .round) (t .share)) 17 _ (five .1) in
     record {
       count = within (t .count) 8 (two .0);
       interval = eqb-false (t .interval) 0 (five .0);
-      records = five .1;
+      share = last .0;
+      records = last .1;
     }
 
 -- what a sheet that is not refused is known for
@@ -219,10 +245,10 @@ module _ (t : Table) (out : List ℕ) where
   write-refused = first-of (tableRefusal t) _
 
   module _ (good : tableRefusal t ≡ 0) where
-    pub write-short : length out < sizeOf (t .count) → writeRefusal t out ≡ 11
+    pub write-short : length out < tableSize t → writeRefusal t out ≡ 11
     unfolding writeRefusal
-    write-short h = next-of _ good ∙ simp (lt-ltb (length out) (sizeOf (t .count)) h)
+    write-short h = next-of _ good ∙ simp (lt-ltb (length out) (tableSize t) h)
 
-    pub write-fits : sizeOf (t .count) ≤ length out → writeRefusal t out ≡ 0
+    pub write-fits : tableSize t ≤ length out → writeRefusal t out ≡ 0
     unfolding writeRefusal
-    write-fits h = next-of _ good ∙ simp (le-ltb (length out) (sizeOf (t .count)) h)
+    write-fits h = next-of _ good ∙ simp (le-ltb (length out) (tableSize t) h)

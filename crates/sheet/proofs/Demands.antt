@@ -1,21 +1,23 @@
--- The demands on sheets in the request's words: written back as the same bytes, read back as the same table, one encoding each.
+-- The demands on sheets in the request's words: written back as the same bytes, read back as the same table, one encoding each; what the old edition means.
 -- That the rules are tried in the document's order is `sheet-in-order` and `table-in-order` of Order.antt. Assumes nothing.
 use Prim.Native.Nat.{ℕ, _≤_}
-use mathlib.Core.Path.{_≡_, sym, ap, _∙_, subst}
+use mathlib.Core.Path.{_≡_, refl, sym, ap, ap₂, _∙_, subst}
+use mathlib.Core.Logic.{_↔_}
 use mathlib.Core.List.{List, _++_}
 use native.Mathlib.Omega.{arith}
 use lib.ListN.{length, take, drop}
 use lib.Seq.{take-at}
 use Rattle.sheet.specs.declared.Table.{Table}
-use Rattle.sheet.specs.Layout.{countOf, sizeOf, sheetRecord, tableOf, cleared, sheetOf}
-use Rattle.sheet.specs.Rules.{outside, sheetRefusal, tableRefusal, recordsRefusal}
+use Rattle.sheet.specs.Layout.{countOf, editionOf, roundOf, shareOf, startOf, sizeOf, sheetRecord, tableOf, cleared, isWhole, editionFor, tableEdition, tableSize, sheetOf}
+use Rattle.sheet.specs.Rules.{outside, wrongShare, sheetRefusal, tableRefusal, recordsRefusal}
 use Rattle.sheet.specs.Answers.{readAnswer, writeRefusal, writeAnswer, writeLeaves}
 use Rattle.sheet.proofs.Spelled.{Bytes}
 use Rattle.sheet.proofs.Turns.{next-of, none-of}
+use Rattle.sheet.proofs.Editions.{Edition, old, new, edition-of, edition-low, whole-old, right-share}
 use Rattle.sheet.proofs.Stores.{length-sheet}
 use Rattle.sheet.proofs.Cases.{good-sheet, good-table, header-good, table-records, write-fits, outside-within}
 use Rattle.sheet.proofs.Agree.{records-agree, room-at}
-use Rattle.sheet.proofs.Return.{Wide, sheet-kept, table-kept, count-read, reserved-read, interval-read, records-read}
+use Rattle.sheet.proofs.Return.{Wide, old-fields, edition-kept, size-kept, sheet-kept, table-kept, count-read, edition-read, interval-read, round-read, share-read, records-read}
 
 -- a good sheet is read as its table
 pub read-good : (s : List ℕ) → sheetRefusal s ≡ 0 → readAnswer s ≡ record { refusal = 0; table = tableOf s }
@@ -27,29 +29,32 @@ pub table-good : (s : List ℕ) → sheetRefusal s ≡ 0 → tableRefusal (table
 unfolding tableOf
 table-good s good =
     let header = good-sheet s good .0 in
-    sym (table-records (tableOf s) (outside-within (countOf s) 8 (header .count)) (header .interval))
+    sym (table-records (tableOf s) (outside-within (countOf s) 8 (header .count)) (header .interval) (ap (λ (e : ℕ). wrongShare e (roundOf s) (shareOf s)) (edition-kept s header) ∙ header .share))
     ∙ records-agree (countOf s) (room-at (sheetRecord s) (countOf s) (header .count .1)) ∙ good-sheet s good .1
 
 -- "writes each good sheet back as the same bytes": what is read from a good sheet and written into an output at least as long is that sheet, and the bytes after it stay as they were
 pub written-back : (s out : List ℕ) → Bytes s → sheetRefusal s ≡ 0 → length s ≤ length out
     → (writeAnswer (readAnswer s .table) out ≡ record { refusal = 0; written = length s }) × (writeLeaves (readAnswer s .table) out ≡ s ++ drop (length s) out)
-unfolding writeAnswer writeLeaves tableOf
+unfolding writeAnswer writeLeaves
 written-back s out byte good long =
     let header = good-sheet s good .0 in
-    let fits : writeRefusal (tableOf s) out ≡ 0 = write-fits (tableOf s) out (table-good s good) (subst (λ (n : ℕ). n ≤ length out) (header .size) long) in
-    rw (read-good s good) (simp (fits, ← header .size), simp (fits, sheet-kept s byte header, ← header .size))
+    let size : tableSize (tableOf s) ≡ length s = sym (size-kept s header) in
+    let fits : writeRefusal (tableOf s) out ≡ 0 = write-fits (tableOf s) out (table-good s good) (subst (λ (n : ℕ). n ≤ length out) (sym size) long) in
+    rw (read-good s good) (simp (fits, size), simp (fits, sheet-kept s byte header, size))
 
 -- the sheet of a good table is good
 sheet-good : (t : Table) → Wide t → tableRefusal t ≡ 0 → sheetRefusal (sheetOf t) ≡ 0
-unfolding sheetRefusal sizeOf
+unfolding sheetRefusal startOf tableSize sizeOf
 sheet-good t wide good =
     let known = good-table t good in
     let count = count-read t wide known in
+    let edition = edition-read t wide known in
     let size = length-sheet t in
+    let low = edition-low (t .round) (t .share) in
     next-of _
     (sym
-    (header-good (sheetOf t) (omega arith) (ap (λ (n : ℕ). outside n 8) count ∙ outside-within (t .count) 8 (known .count)) (reserved-read t wide known)
-    (size ∙ ap sizeOf (sym count)) (λ e. known .interval (sym (interval-read t wide known) ∙ e))))
+    (header-good (sheetOf t) (omega arith) (ap (λ (n : ℕ). outside n 8) count ∙ outside-within (t .count) 8 (known .count)) (omega arith) (omega arith) (omega arith)
+    (λ e. known .interval (sym (interval-read t wide known) ∙ e)) (simp (edition, round-read t wide known, share-read t wide known) (known .share))))
     ∙ ap (λ (n : ℕ). recordsRefusal n (sheetRecord (sheetOf t))) count ∙ records-agree (t .count) (records-read t wide known) ∙ known .records
 
 -- "Reading what was written gives the table back with those records zero": what a good table is written as, in an output long enough, is read as the table with its records past the count zero
@@ -58,9 +63,26 @@ pub read-back : (t : Table) (out : List ℕ) → Wide t → writeRefusal t out �
 unfolding writeAnswer writeLeaves writeRefusal
 read-back t out wide fits =
     let good : tableRefusal t ≡ 0 = none-of (tableRefusal t) _ fits .0 in
-    simp (fits, take-at (sheetOf t) (drop (sizeOf (t .count)) out) (sizeOf (t .count)) (length-sheet t))
+    simp (fits, take-at (sheetOf t) (drop (tableSize t) out) (tableSize t) (length-sheet t))
     (read-good (sheetOf t) (sheet-good t wide good) ∙ ap (λ (u : Table). record { refusal = 0; table = u }) (table-kept t wide (good-table t good)))
 
 -- "one encoding each": two good tables with the same sheet agree up to their records past the count
 pub one-encoding : (t u : Table) → Wide t → Wide u → tableRefusal t ≡ 0 → tableRefusal u ≡ 0 → sheetOf t ≡ sheetOf u → cleared t ≡ cleared u
 one-encoding t u wt wu gt gu same = sym (table-kept t wt (good-table t gt)) ∙ ap tableOf same ∙ table-kept u wu (good-table u gu)
+
+-- "each good sheet still has one encoding": two good sheets that hold the same table are the same bytes, so no table has a sheet in each edition
+pub one-sheet : (s r : List ℕ) → Bytes s → Bytes r → sheetRefusal s ≡ 0 → sheetRefusal r ≡ 0 → tableOf s ≡ tableOf r → s ≡ r
+one-sheet s r bs br gs gr same = sym (sheet-kept s bs (good-sheet s gs .0)) ∙ ap sheetOf same ∙ sheet-kept r br (good-sheet r gr .0)
+
+-- "The old edition means the whole processor, carried in the table as Q = S = 1": a good sheet is of the old edition exactly if its table is that
+pub whole-processor : (s : List ℕ) → sheetRefusal s ≡ 0 → (editionOf s ≡ 0) ↔ ((tableOf s .round ≡ 1) × (tableOf s .share ≡ 1))
+unfolding tableOf editionFor isWhole
+whole-processor s good = (old-fields s, λ whole. sym (edition-kept s (good-sheet s good .0)) ∙ ap₂ editionFor (whole .0) (whole .1))
+
+-- "the one table allowed with S not below Q"
+pub only-whole : (t : Table) → tableRefusal t ≡ 0 → t .round ≤ t .share → (t .round ≡ 1) × (t .share ≡ 1)
+only-whole t good above = go (tableEdition t) (edition-of (tableEdition t) (edition-low (t .round) (t .share))) refl
+  where
+    go : (e : ℕ) → Edition e → tableEdition t ≡ e → (t .round ≡ 1) × (t .share ≡ 1)
+    go e old is = whole-old (t .round) (t .share) is
+    go e new is = absurd (omega (arith, right-share (t .round) (t .share) is (good-table t good .share)))

@@ -1,5 +1,6 @@
 -- Laws that belong to no one function.
 pub mod Packing
+pub mod Editions
 pub mod Spelled
 pub mod Turns
 pub mod Parts

@@ -1,167 +1,182 @@
--- A sheet's refusal and that of a table by value are given in the order of document 01's table of refusal numbers. Assumes nothing.
-use Prim.Native.Nat.{ℕ, zero, suc, _≤_, _<_}
-use mathlib.Core.Path.{_≡_, refl, subst}
-use mathlib.Core.Bool.{Bool, true, false, cond}
-use mathlib.Core.Logic.{_↔_, inl, inr, ⊎-elim}
-use mathlib.Core.List.{List, [], _∷_}
+-- A sheet's refusal and that of a table by value are given in the order in which the rows of specs/Broken.antt are tried. Assumes nothing.
+use Prim.Native.Nat.{ℕ, zero, suc, _+_, _*_, _≤_, _<_}
+use mathlib.Core.Path.{_≡_, refl, sym, subst, _∙_}
+use mathlib.Core.Bool.{Bool, true, false, cond, not}
+use mathlib.Core.Logic.{_⊎_, _↔_, inl, inr, ⊎-elim}
+use mathlib.Core.List.{List, [], _∷_, _++_}
 use native.Mathlib.Omega.{arith}
-use native.Mathlib.Nat.{eq-or-lt-of-le, le-of-suc-le-suc}
 use lib.Dec.{eqb}
 use lib.ListN.{length}
-use borrow.Author.Tests.{ne-eqb}
 use Rattle.sheet.specs.declared.Record.{Record}
 use Rattle.sheet.specs.declared.Table.{Table}
-use Rattle.sheet.specs.Places.{orElse, firstBelow}
-use Rattle.sheet.specs.Layout.{countOf, reservedOf, intervalOf, sizeOf, sheetRecord, recordAt}
-use Rattle.sheet.specs.Rules.{outside, taken, refusalOf, recordRefusal, recordsRefusal, headerRefusal, sheetRefusal, tableRefusal}
-use Rattle.sheet.specs.Broken.{Row, row, Broken, NoneBroken, FirstBroken, FirstRecord, InOrder, sheetRows, tableRows, recordRows}
-use Rattle.sheet.proofs.Tells.{Tells, holds, fails, ltb-tells, eqb-tells, not-tells, or-tells, outside-tells, some-tells}
+use Rattle.sheet.specs.Places.{orElse, firstBelow, joinedBelow}
+use Rattle.sheet.specs.Layout.{countOf, editionOf, intervalOf, roundOf, shareOf, startOf, sizeOf, isWhole, editionFor, tableEdition, sheetRecord, recordAt}
+use Rattle.sheet.specs.Rules.{outside, wrongShare, taken, refusalOf, recordRefusal, recordsRefusal, headerRefusal, sheetRefusal, tableRefusal}
+use Rattle.sheet.specs.Broken.{Row, row, WrongShare, NoneBroken, FirstBroken, RuleNumber, InOrder, recordRows, recordsRows, headerRows, sheetRows, figuresRows, tableRows}
+use Rattle.sheet.proofs.Turns.{first-of}
+use Rattle.sheet.proofs.Editions.{Edition, old, new, edition-of, whole-old}
+use Rattle.sheet.proofs.Tells.{Tells, holds, fails, tells-iff, ltb-tells, leb-tells, eqb-tells, not-tells, or-tells, and-tells, outside-tells, some-tells}
 
--- what a number says of rows: it is 0 and none is broken, or it is that of the first one broken
-pub data Says (rows : List Row) : ℕ → Type 0 where
-  none : NoneBroken rows → Says rows 0
-  first : {r : ℕ} → FirstBroken rows r → Says rows r
+-- no row is the first one broken where none is, and one at most is
+none-first : (rows : List Row) (r : ℕ) → NoneBroken rows → FirstBroken rows r → ⊥
+none-first [] r n f = f
+none-first (row number reason ∷ rows) r n (inl f) = n .0 (f .1)
+none-first (row number reason ∷ rows) r n (inr f) = none-first rows r (n .1) (f .1)
 
--- the number r says it of the rows, and their numbers lie above low and go up to high
-pub record Judged (rows : List Row) (low high r : ℕ) : Type 0 where
-  pub wide : low ≤ high
-  pub numbers : (e : ℕ) → Broken rows e → (low < e) × (e ≤ high)
-  pub says : Says rows r
+first-unique : (rows : List Row) {q r : ℕ} → FirstBroken rows q → FirstBroken rows r → q ≡ r
+first-unique [] f g = absurd f
+first-unique (row number reason ∷ rows) (inl f) (inl g) = f .0 ∙ sym (g .0)
+first-unique (row number reason ∷ rows) (inl f) (inr g) = absurd (g .0 (f .1))
+first-unique (row number reason ∷ rows) (inr f) (inl g) = absurd (f .0 (g .1))
+first-unique (row number reason ∷ rows) (inr f) (inr g) = first-unique rows (f .1) (g .1)
 
--- 0 says it of no rows
-pub judged-none : {k : ℕ} → Judged [] k k 0
-judged-none = record { wide = omega arith; numbers = λ e b. absurd b; says = none (λ e b. b) }
+-- rows after others: none is broken, or the first one is among the others, or among the rows and none of the others is
+none-joined : (xs ys : List Row) → NoneBroken xs → NoneBroken ys → NoneBroken (xs ++ ys)
+none-joined [] ys n m = m
+none-joined (row number reason ∷ xs) ys n m = (n .0, none-joined xs ys (n .1) m)
 
--- a test in front of the number adds a row in front of the rows
-pub judged-row : {rows : List Row} {P : Type 0} {b : Bool} {low number high r : ℕ} → low < number → Tells P b → Judged rows number high r → Judged (row number P ∷ rows) low high (cond b number r)
-judged-row {rows} {P} {number} l t j =
-    record {
-      wide = omega arith;
-      numbers = λ e. ⊎-elim (λ w. omega arith) (λ w. omega (arith, j .numbers e w));
-      says = go t (j .says);
-    }
+first-before : (xs ys : List Row) (r : ℕ) → FirstBroken xs r → FirstBroken (xs ++ ys) r
+first-before [] ys r f = absurd f
+first-before (row number reason ∷ xs) ys r (inl f) = inl f
+first-before (row number reason ∷ xs) ys r (inr f) = inr (f .0, first-before xs ys r (f .1))
+
+first-after : (xs ys : List Row) (r : ℕ) → NoneBroken xs → FirstBroken ys r → FirstBroken (xs ++ ys) r
+first-after [] ys r n f = f
+first-after (row number reason ∷ xs) ys r n f = inr (n .0, first-after xs ys r (n .1) f)
+
+module _ (Number : ℕ → Type 0) where
+  -- what a number says of rows: it is 0 and none is broken, or it is that of the first one broken, one of the given numbers
+  pub data Says (rows : List Row) : ℕ → Type 0 where
+    none : NoneBroken rows → Says rows 0
+    first : {r : ℕ} → Number r → FirstBroken rows r → Says rows r
+
+module _ {Number : ℕ → Type 0} where
+  -- 0 says it of no rows
+  pub says-none : Says Number [] 0
+  says-none = none tt
+
+  -- a test in front of the number adds a row in front of the rows, and where the test fails its rule is known not to be broken
+  pub says-row : {rows : List Row} {P : Type 0} {b : Bool} {number r : ℕ} → Number number → Tells P b → ((P → ⊥) → Says Number rows r) → Says Number (row number P ∷ rows) (cond b number r)
+  says-row {rows} {P} {number} {r} known (holds p) s = first known (inl (refl, p))
+  says-row {rows} {P} {number} {r} known (fails n) s = go (s n)
+    where
+      go : {r : ℕ} → Says Number rows r → Says Number (row number P ∷ rows) r
+      go (none f) = none (n, f)
+      go (first k f) = first k (inr (n, f))
+
+module _ {Number : ℕ → Type 0} (positive : (r : ℕ) → Number r → 0 < r) where
+  -- a number that says it of rows, or else the one that says it of further rows, says it of both
+  pub says-joined : (xs ys : List Row) {q r : ℕ} → Says Number xs q → Says Number ys r → Says Number (xs ++ ys) (orElse q r)
+  unfolding orElse
+  says-joined xs ys (none f) (none g) = none (none-joined xs ys f g)
+  says-joined xs ys (none f) (first {r = r} k g) = first k (first-after xs ys r f g)
+  says-joined xs ys {q} {r} (first k f) s = rw (first-of q r (λ e. omega (arith, positive q k))) (first k (first-before xs ys q f))
+
+  -- the first refusal below n says it of the rows of the places below n
+  pub says-below : (rows : ℕ → List Row) (refusal : ℕ → ℕ) → ((k : ℕ) → Says Number (rows k) (refusal k)) → (n : ℕ) → Says Number (joinedBelow rows n) (firstBelow refusal n)
+  unfolding firstBelow joinedBelow
+  says-below rows refusal each zero = none tt
+  says-below rows refusal each (suc n) = says-joined (joinedBelow rows n) (rows n) (says-below rows refusal each n) (each n)
+
+  -- a number that says it of rows is given in their order
+  pub in-order : {rows : List Row} {r : ℕ} → Says Number rows r → InOrder Number rows r
+  in-order {rows} (none f) =
+      record {
+        first-order = λ x some. (λ e. absurd (omega arith), λ g. absurd (none-first rows x f g));
+        good-order = (λ e. f, λ n. refl);
+        range = inl refl;
+      }
+  in-order {rows} (first {r = r} k f) =
+      record {
+        first-order = λ x some. (λ e. subst (FirstBroken rows) e f, first-unique rows f);
+        good-order = (λ e. absurd (omega (arith, positive r k)), λ n. absurd (none-first rows r n f));
+        range = inr k;
+      }
+
+-- the rules' numbers are not 0
+pub rule-positive : (r : ℕ) → RuleNumber r → 0 < r
+rule-positive r (inl h) = h .0
+rule-positive r (inr e) = omega arith
+
+low : {r : ℕ} → (1 ≤ r) × (r ≤ 10) → RuleNumber r
+low h = inl h
+
+-- "S zero or not below Q", in an edition that is not the old one
+share-tells : (edition round share : ℕ) → Tells ((edition ≡ 0 → ⊥) × WrongShare round share) (wrongShare edition round share)
+unfolding wrongShare
+share-tells edition round share = and-tells (not-tells (eqb-tells edition 0)) (or-tells (eqb-tells share 0) (leb-tells round share))
+
+-- the length that an edition asks for
+length-tells : (length edition count : ℕ) → edition ≤ 1 → Tells (((edition ≡ 0) × (length ≡ 3 + 9 * count → ⊥)) ⊎ ((edition ≡ 1) × (length ≡ 7 + 9 * count → ⊥))) (not (eqb length (sizeOf edition count)))
+unfolding sizeOf
+length-tells length edition count low = go edition (edition-of edition low) refl
   where
-    go : {b : Bool} {r : ℕ} → Tells P b → Says rows r → Says (row number P ∷ rows) (cond b number r)
-    go (holds p) s = first (record { broken = inl (refl, p); none-before = λ e h. ⊎-elim (λ w. omega arith) (λ w. omega (arith, j .numbers e w)) })
-    go (fails n) (none f) = none (λ e. ⊎-elim (λ w. n (w .1)) (f e))
-    go (fails n) (first f) = first (record { broken = inr (f .broken); none-before = λ e h. ⊎-elim (λ w. n (w .1)) (f .none-before e h) })
+    go : (e : ℕ) → Edition e → edition ≡ e → Tells (((edition ≡ 0) × (length ≡ 3 + 9 * count → ⊥)) ⊎ ((edition ≡ 1) × (length ≡ 7 + 9 * count → ⊥))) (not (eqb length (3 + 4 * edition + 9 * count)))
+    go e old is =
+        rw is (tells-iff (λ n. inl (refl, n)) (⊎-elim (λ w. w .1) (λ w. absurd (omega arith))) (not-tells (eqb-tells length (3 + 9 * count))))
+    go e new is =
+        rw is (tells-iff (λ n. inr (refl, n)) (⊎-elim (λ w. absurd (omega arith)) (λ w. w .1)) (not-tells (eqb-tells length (7 + 9 * count))))
 
--- the header's refusal says it of the sheet's rows
-header-judged : (sheet : List ℕ) → Judged (sheetRows sheet) 0 5 (headerRefusal sheet)
-unfolding sheetRows headerRefusal sizeOf
-header-judged sheet =
-    judged-row (omega arith) (ltb-tells (length sheet) 3)
-    (judged-row (omega arith) (outside-tells (countOf sheet) 8)
-    (judged-row (omega arith) (not-tells (eqb-tells (reservedOf sheet) 0))
-    (judged-row (omega arith) (not-tells (eqb-tells (length sheet) (sizeOf (countOf sheet))))
-    (judged-row (omega arith) (eqb-tells (intervalOf sheet) 0) judged-none))))
-
--- the refusal of a table by value, as far as rule 5, says it of the table's rows
-table-judged : (t : Table) → Judged (tableRows t) 0 5 (cond (outside (t .count) 8) 2 (cond (eqb (t .interval) 0) 5 0))
-unfolding tableRows
-table-judged t = judged-row (omega arith) (outside-tells (t .count) 8) (judged-row (omega arith) (eqb-tells (t .interval) 0) judged-none)
+-- the header's refusal says it of the sheet's rows before its records
+header-says : (sheet : List ℕ) → Says RuleNumber (headerRows sheet) (headerRefusal sheet)
+unfolding headerRows headerRefusal startOf
+header-says sheet =
+    says-row (low (omega arith)) (ltb-tells (length sheet) 3) (λ long.
+    says-row (low (omega arith)) (outside-tells (countOf sheet) 8) (λ counted.
+    says-row (low (omega arith)) (ltb-tells 1 (editionOf sheet)) (λ edition.
+    says-row (low (omega arith)) (tells-iff (λ h. omega arith) (λ h. omega arith) (ltb-tells (length sheet) (3 + 4 * editionOf sheet))) (λ header.
+    says-row (low (omega arith)) (length-tells (length sheet) (editionOf sheet) (countOf sheet) (omega arith)) (λ sized.
+    says-row (low (omega arith)) (eqb-tells (intervalOf sheet) 0) (λ some.
+    says-row (inr refl) (tells-iff (λ w. (omega arith, w .1)) (λ w. (omega arith, w .1)) (share-tells (editionOf sheet) (roundOf sheet) (shareOf sheet))) (λ right. says-none)))))))
 
 -- a record's refusal says it of the record's rows
-record-judged : (n : ℕ) (at : ℕ → Record) (k : ℕ) → Judged (recordRows n at k) 5 10 (recordRefusal n at k)
+record-says : (n : ℕ) (at : ℕ → Record) (k : ℕ) → Says RuleNumber (recordRows n at k) (recordRefusal n at k)
 unfolding recordRows recordRefusal refusalOf taken
-record-judged n at k =
-    judged-row (omega arith) (outside-tells (at k .cost) (at k .deadline))
-    (judged-row (omega arith) (outside-tells (at k .backup) (at k .deadline))
-    (judged-row (omega arith) (ltb-tells (at k .period) (at k .deadline))
-    (judged-row (omega arith) (or-tells (outside-tells (at k .priority) n) (some-tells (λ j. eqb-tells (at j .priority) (at k .priority)) k))
-    (judged-row (omega arith) (outside-tells (at k .«fault_priority») (at k .priority)) judged-none))))
+record-says n at k =
+    says-row (low (omega arith)) (outside-tells (at k .cost) (at k .deadline)) (λ cost.
+    says-row (low (omega arith)) (outside-tells (at k .backup) (at k .deadline)) (λ backup.
+    says-row (low (omega arith)) (ltb-tells (at k .period) (at k .deadline)) (λ deadline.
+    says-row (low (omega arith)) (or-tells (outside-tells (at k .priority) n) (some-tells (λ j. eqb-tells (at j .priority) (at k .priority)) k)) (λ priority.
+    says-row (low (omega arith)) (outside-tells (at k .«fault_priority») (at k .priority)) (λ fault. says-none)))))
 
--- what a number says of the rows of the places below n: it is 0 and none is broken, or it is that of the first one broken, place after place
-pub data SaysBelow (n : ℕ) (rows : ℕ → List Row) : ℕ → Type 0 where
-  none-below : ((k : ℕ) → k < n → NoneBroken (rows k)) → SaysBelow n rows 0
-  first-below : {r : ℕ} → FirstRecord n rows r → SaysBelow n rows r
-
--- a refusal that is not 0 stands before the next one
-else-first : (q r : ℕ) → 0 < q → orElse q r ≡ q
-unfolding orElse
-else-first q r h = rw (ne-eqb q 0 (λ e. omega arith))
-
-module _ (rows : ℕ → List Row) (refusal : ℕ → ℕ) (low high : ℕ) (each : (k : ℕ) → Judged (rows k) low high (refusal k)) where
-  -- a number that says it of the places below n, or else the one that says it of place n, says it of the places below n + 1
-  says-next : (n : ℕ) {q r : ℕ} → SaysBelow n rows q → Says (rows n) r → SaysBelow (suc n) rows (orElse q r)
-  unfolding orElse
-  says-next n (none-below f) (none g) = none-below (λ k l. ⊎-elim (λ e. rw e g) (f k) (eq-or-lt-of-le (le-of-suc-le-suc l)))
-  says-next n (none-below f) (first g) = first-below (record { place = n; below = omega arith; first = g; none-before = f })
-  says-next n {r} (first-below {r = q} w) s =
-      rw (else-first q r (omega (arith, each (w .place) .numbers q (w .first .broken))))
-      (first-below (record { place = w .place; below = omega arith; first = w .first; none-before = w .none-before }))
-
-  -- the first refusal below n says it of the places below n
-  pub says-below : (n : ℕ) → SaysBelow n rows (firstBelow refusal n)
-  unfolding firstBelow
-  says-below zero = none-below (λ k l. omega arith)
-  says-below (suc n) = says-next n (says-below n) (each n .says)
-
--- only one rule is the first one broken
-first-unique : {rows : List Row} {q r : ℕ} → FirstBroken rows q → FirstBroken rows r → q ≡ r
-first-unique {q} {r} f g =
-    let not-below : q < r → ⊥ = λ l. g .none-before q l (f .broken) in
-    let not-above : r < q → ⊥ = λ l. f .none-before r l (g .broken) in
-    omega arith
-
--- only one rule is the first one broken, place after place
-pub record-unique : {n : ℕ} {rows : ℕ → List Row} {q r : ℕ} → FirstRecord n rows q → FirstRecord n rows r → q ≡ r
-record-unique {rows} {q} {r} v w =
-    let not-below : v .place < w .place → ⊥ = λ l. w .none-before (v .place) l q (v .first .broken) in
-    let not-above : w .place < v .place → ⊥ = λ l. v .none-before (w .place) l r (w .first .broken) in
-    let same : w .place ≡ v .place = omega arith in
-    first-unique (v .first) (subst (λ (k : ℕ). FirstBroken (rows k) r) same (w .first))
-
--- two statements that both fail are equivalent
-pub neither : {A B : Type 0} → (A → ⊥) → (B → ⊥) → A ↔ B
-neither f g = (λ a. absurd (f a), λ b. absurd (g b))
-
--- where one number says it of rules 1 to 5 and another of the places below n, the first or else the second is given in the table's order
-in-order : {rows : List Row} {n : ℕ} {places : ℕ → List Row} {q r : ℕ} → ((e : ℕ) → Broken rows e → (0 < e) × (e ≤ 5)) → ((k e : ℕ) → Broken (places k) e → (5 < e) × (e ≤ 10)) → Says rows q → SaysBelow n places r → InOrder rows n places (orElse q r)
-unfolding orElse
-in-order {rows} {r} low high (first {r = q} f) s =
-    let within : (0 < q) × (q ≤ 5) = low q (f .broken) in
-    rw (else-first q r (within .0))
-    (record {
-      header-order = λ x l h. (λ e. subst (FirstBroken rows) e f, first-unique f);
-      records-order = λ x l h. neither (λ e. omega arith) (λ w. w .0 q (f .broken));
-      good-order = neither (λ e. omega arith) (λ w. w .0 q (f .broken));
-      range = omega arith;
-    })
-in-order low high (none f) (none-below g) =
-    record {
-      header-order = λ x l h. neither (λ e. omega arith) (λ v. f x (v .broken));
-      records-order = λ x l h. neither (λ e. omega arith) (λ w. g (w .1 .place) (w .1 .below) x (w .1 .first .broken));
-      good-order = (λ e. (f, g), λ w. refl);
-      range = omega arith;
-    }
-in-order {n} {places} low high (none f) (first-below {r = r} w) =
-    let within : (5 < r) × (r ≤ 10) = high (w .place) r (w .first .broken) in
-    record {
-      header-order = λ x l h. neither (λ e. omega arith) (λ v. f x (v .broken));
-      records-order = λ x l h. (λ e. (f, subst (FirstRecord n places) e w), λ v. record-unique w (v .1));
-      good-order = neither (λ e. omega arith) (λ v. v .1 (w .place) (w .below) r (w .first .broken));
-      range = omega arith;
-    }
-
--- a number that says it of rules 1 to 5, or else the records' refusal, is given in the table's order
-records-in-order : {rows : List Row} {q : ℕ} → Judged rows 0 5 q → (n : ℕ) (at : ℕ → Record) → InOrder rows n (recordRows n at) (orElse q (recordsRefusal n at))
+-- the records' refusal says it of their rows
+records-say : (n : ℕ) (at : ℕ → Record) → Says RuleNumber (recordsRows n at) (recordsRefusal n at)
 unfolding recordsRefusal
-records-in-order j n at = in-order (j .numbers) (λ k. record-judged n at k .numbers) (j .says) (says-below (recordRows n at) (recordRefusal n at) 5 10 (record-judged n at) n)
+records-say n at = says-below rule-positive (recordRows n at) (recordRefusal n at) (record-says n at) n
 
--- a sheet's refusal is given in the table's order
-pub sheet-in-order : (sheet : List ℕ) → InOrder (sheetRows sheet) (countOf sheet) (recordRows (countOf sheet) (sheetRecord sheet)) (sheetRefusal sheet)
+-- what a sheet's refusal says of its rows
+pub sheet-says : (sheet : List ℕ) → Says RuleNumber (sheetRows sheet) (sheetRefusal sheet)
 unfolding sheetRefusal
-sheet-in-order sheet = records-in-order (header-judged sheet) (countOf sheet) (sheetRecord sheet)
+sheet-says sheet = says-joined rule-positive (headerRows sheet) _ (header-says sheet) (records-say (countOf sheet) (sheetRecord sheet))
 
--- two tests before a refusal are a refusal and the next
-else-tests : (a b : Bool) (r : ℕ) → orElse (cond a 2 (cond b 5 0)) r ≡ cond a 2 (cond b 5 r)
+-- a sheet's refusal is given in the order of its rows
+pub sheet-in-order : (sheet : List ℕ) → InOrder RuleNumber (sheetRows sheet) (sheetRefusal sheet)
+sheet-in-order sheet = in-order rule-positive (sheet-says sheet)
+
+-- a table is in the old edition exactly with Q = S = 1
+edition-tells : (round share : ℕ) → (editionFor round share ≡ 0 → ⊥) ↔ ((round ≡ 1) × (share ≡ 1) → ⊥)
+unfolding editionFor isWhole
+edition-tells round share = (λ n w. n (rw (w .0, w .1) refl), λ n e. n (whole-old round share e))
+
+-- the refusal of a table by value, as far as rule 18, says it of the table's rows before its records
+figures-say : (t : Table) → Says RuleNumber (figuresRows t) (cond (outside (t .count) 8) 2 (cond (eqb (t .interval) 0) 5 (cond (wrongShare (tableEdition t) (t .round) (t .share)) 18 0)))
+unfolding figuresRows
+figures-say t =
+    let shared = edition-tells (t .round) (t .share) in
+    says-row (low (omega arith)) (outside-tells (t .count) 8) (λ counted.
+    says-row (low (omega arith)) (eqb-tells (t .interval) 0) (λ some.
+    says-row (inr refl) (tells-iff (λ w. (shared .0 (w .0), w .1)) (λ w. (shared .1 (w .0), w .1)) (share-tells (tableEdition t) (t .round) (t .share))) (λ right. says-none)))
+
+-- three tests before a refusal are a refusal and the next
+else-tests : (a b c : Bool) (r : ℕ) → orElse (cond a 2 (cond b 5 (cond c 18 0))) r ≡ cond a 2 (cond b 5 (cond c 18 r))
 unfolding orElse
-else-tests true b r = refl
-else-tests false true r = refl
-else-tests false false r = refl
+else-tests true b c r = refl
+else-tests false true c r = refl
+else-tests false false true r = refl
+else-tests false false false r = refl
 
--- the refusal of a table by value is given in the table's order
-pub table-in-order : (t : Table) → InOrder (tableRows t) (t .count) (recordRows (t .count) (recordAt (t .records))) (tableRefusal t)
+-- the refusal of a table by value is given in the order of its rows
+pub table-in-order : (t : Table) → InOrder RuleNumber (tableRows t) (tableRefusal t)
 unfolding tableRefusal
-table-in-order t = rw else-tests at (records-in-order (table-judged t) (t .count) (recordAt (t .records)))
+table-in-order t =
+    in-order rule-positive (rw else-tests at (says-joined rule-positive (figuresRows t) _ (figures-say t) (records-say (t .count) (recordAt (t .records)))))

@@ -4,7 +4,7 @@ use Prim.Native.Nat.{ℕ, _+_, _*_, _≤_, _<_}
 use mathlib.Core.Path.{_≡_, refl, sym, ap, _∙_}
 use mathlib.Core.Bool.{Bool, true, false, cond, false≢true}
 use mathlib.Core.List.{List, []}
-use mathlib.Core.Logic.{_↔_}
+use mathlib.Core.Logic.{_⊎_, _↔_, ⊎-elim}
 use native.Mathlib.Decide.{ℕ-discrete}
 use native.Mathlib.Omega.{arith}
 use native.Mathlib.Nat.{add-zero}
@@ -15,22 +15,26 @@ use Rattle.sheet.specs.declared.Record.{Record}
 use Rattle.sheet.specs.declared.Table.{Table}
 use Rattle.sheet.specs.declared.Excerpt.{Excerpt}
 use Rattle.sheet.specs.Places.{orElse}
-use Rattle.sheet.specs.Layout.{countOf, sizeOf, noRecord}
+use Rattle.sheet.specs.Layout.{countOf, headerSize, tableEdition, tableSize, sizeOf, noRecord}
 use Rattle.sheet.specs.Rules.{sheetRefusal, tableRefusal}
+use Rattle.sheet.specs.Broken.{RuleNumber}
 use Rattle.sheet.specs.Answers.{readAnswer, writeRefusal, writeAnswer, writeLeaves, placeRefusal, partStart, partBytes, Part, Excerpted}
 use Rattle.sheet.proofs.Turns.{next-of, first-of, none-of}
 use Rattle.sheet.proofs.Tells.{Tells, holds, fails, ltb-tells}
 use Rattle.sheet.proofs.Order.{sheet-in-order, table-in-order}
 
--- a number above the rules' that is tried after them
-module _ (rule number : ℕ) (few : rule ≤ 10) (new : 10 < number) where
+-- a number that is none of the rules' and is tried after them
+module _ (rule number : ℕ) (known : (rule ≡ 0) ⊎ RuleNumber rule) (new : (10 < number) × (number ≡ 18 → ⊥)) where
+  other : rule ≡ number → ⊥
+  other e = ⊎-elim (λ z. omega arith) (⊎-elim (λ h. omega arith) (λ h. new .1 (sym e ∙ h))) known
+
   -- it is given exactly if no rule is broken and what is tried next gives it
   pub tried-last : (next : ℕ) → (orElse rule next ≡ number) ↔ ((rule ≡ 0) × (next ≡ number))
   tried-last next = (λ e. go (ℕ-discrete rule 0) e, λ h. next-of next (h .0) ∙ h .1)
     where
       go : Dec (rule ≡ 0) → orElse rule next ≡ number → (rule ≡ 0) × (next ≡ number)
       go (yes z) e = (z, sym (next-of next z) ∙ e)
-      go (no z) e = absurd (omega (arith, first-of rule next z, e))
+      go (no z) e = absurd (other (sym (first-of rule next z) ∙ e))
 
   -- so exactly if none is and its own test holds
   pub given-if : {P : Type 0} {b : Bool} → Tells P b → (orElse rule (cond b number 0) ≡ number) ↔ ((rule ≡ 0) × P)
@@ -65,6 +69,8 @@ pub record Zeros (r : Record) : Type 0 where
 pub record ZeroTable (t : Table) : Type 0 where
   pub count : t .count ≡ 0
   pub interval : t .interval ≡ 0
+  pub round : t .round ≡ 0
+  pub share : t .share ≡ 0
   pub eight : length (t .records) ≡ 8
   pub records : (place : ℕ) → place < 8 → (other : Record) → Zeros (getD (t .records) place other)
 
@@ -85,13 +91,13 @@ pub read-refused : (s : List ℕ) → (sheetRefusal s ≡ 0 → ⊥) → (readAn
 unfolding readAnswer
 read-refused s broken =
     simp (ne-eqb (sheetRefusal s) 0 broken)
-    (refl, record { count = refl; interval = refl; eight = refl; records = λ place below other. zeros _ (getD-replicate 8 place noRecord other below) })
+    (refl, record { count = refl; interval = refl; round = refl; share = refl; eight = refl; records = λ place below other. zeros _ (getD-replicate 8 place noRecord other below) })
 
 module _ (t : Table) (out : List ℕ) where
-  -- `write`: 11 exactly if the table is good and "the lent output is shorter than what is to be written", 3 + 9n bytes
-  pub write-11 : (writeRefusal t out ≡ 11) ↔ ((tableRefusal t ≡ 0) × (length out < 3 + 9 * t .count))
-  unfolding writeRefusal sizeOf
-  write-11 = given-if (tableRefusal t) 11 (table-in-order t .range) (omega arith) (ltb-tells (length out) (3 + 9 * t .count))
+  -- `write`: 11 exactly if the table is good and "the lent output is shorter than what is to be written", 3 + 9n bytes, or in the new edition 7 + 9n
+  pub write-11 : (writeRefusal t out ≡ 11) ↔ ((tableRefusal t ≡ 0) × (length out < headerSize (tableEdition t) + 9 * t .count))
+  unfolding writeRefusal tableSize sizeOf
+  write-11 = given-if (tableRefusal t) 11 (table-in-order t .range) (omega arith) (ltb-tells (length out) (headerSize (tableEdition t) + 9 * t .count))
 
   -- refused, no byte is written and the output stays as it was
   pub write-refused-leaves : (writeRefusal t out ≡ 0 → ⊥) → (writeAnswer t out .refusal ≡ writeRefusal t out) × (writeAnswer t out .written ≡ 0) × (writeLeaves t out ≡ out)

@@ -1,12 +1,12 @@
 -- What a Bool test tells of a proposition: that it holds, or that it fails. Assumes nothing.
-use Prim.Native.Nat.{ℕ, zero, suc, _<_}
+use Prim.Native.Nat.{ℕ, zero, suc, _≤_, _<_}
 use mathlib.Core.Path.{_≡_, refl, subst}
-use mathlib.Core.Bool.{Bool, true, false, not, _||_}
+use mathlib.Core.Bool.{Bool, true, false, not, _&&_, _||_}
 use mathlib.Core.Logic.{_⊎_, inl, inr, ⊎-elim}
 use native.Mathlib.Omega.{arith}
 use native.Mathlib.Nat.{eq-or-lt-of-le, le-of-suc-le-suc}
-use lib.Dec.{ltb, eqb}
-use borrow.Author.Tests.{ltb-true, ltb-false, eqb-true, eqb-false}
+use lib.Dec.{ltb, leb, eqb}
+use borrow.Author.Tests.{ltb-true, ltb-false, leb-true, leb-false, eqb-true, eqb-false}
 use Rattle.sheet.specs.Places.{someBelow}
 use Rattle.sheet.specs.Rules.{outside}
 use Rattle.sheet.specs.Broken.{Outside}
@@ -30,6 +30,10 @@ tells-iff f g (fails n) = fails (λ q. n (g q))
 pub ltb-tells : (a b : ℕ) → Tells (a < b) (ltb a b)
 ltb-tells a b = tells (ltb a b) (ltb-true a b) (λ e h. omega (arith, ltb-false a b e))
 
+-- `leb` tells ≤
+pub leb-tells : (a b : ℕ) → Tells (a ≤ b) (leb a b)
+leb-tells a b = tells (leb a b) (leb-true a b) (λ e h. omega (arith, leb-false a b e))
+
 -- `eqb` tells ≡
 pub eqb-tells : (a b : ℕ) → Tells (a ≡ b) (eqb a b)
 eqb-tells a b = tells (eqb a b) (eqb-true a b) (eqb-false a b)
@@ -43,6 +47,11 @@ not-tells (fails n) = holds n
 pub or-tells : {P Q : Type 0} {a b : Bool} → Tells P a → Tells Q b → Tells (P ⊎ Q) (a || b)
 or-tells (holds p) t = holds (inl p)
 or-tells (fails n) t = tells-iff inr (⊎-elim (λ p. absurd (n p)) (λ q. q)) t
+
+-- `&&` tells that both hold
+pub and-tells : {P Q : Type 0} {a b : Bool} → Tells P a → Tells Q b → Tells (P × Q) (a && b)
+and-tells (holds p) t = tells-iff (λ q. (p, q)) (λ h. h .1) t
+and-tells (fails n) t = fails (λ h. n (h .0))
 
 -- `outside` tells "0 or above"
 pub outside-tells : (x limit : ℕ) → Tells (Outside x limit) (outside x limit)

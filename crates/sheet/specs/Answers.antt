@@ -11,7 +11,7 @@ use Rattle.sheet.specs.declared.Reading.{Reading}
 use Rattle.sheet.specs.declared.Writing.{Writing}
 use Rattle.sheet.specs.declared.Excerpt.{Excerpt}
 use Rattle.sheet.specs.Places.{orElse}
-use Rattle.sheet.specs.Layout.{countOf, sizeOf, partOf, tableOf, noTable, sheetOf}
+use Rattle.sheet.specs.Layout.{countOf, startOf, partOf, tableOf, noTable, tableSize, sheetOf}
 use Rattle.sheet.specs.Rules.{sheetRefusal, tableRefusal}
 
 -- `read`: the refusal beside the table, a zero table where the sheet is refused
@@ -20,15 +20,15 @@ readAnswer sheet = record { refusal = sheetRefusal sheet; table = cond (eqb (she
 
 -- the refusal of a write: the table's, then 11, "the lent output is shorter than what is to be written"
 unfoldable pub writeRefusal : Table → List ℕ → ℕ
-writeRefusal t out = orElse (tableRefusal t) (cond (ltb (length out) (sizeOf (t .count))) 11 0)
+writeRefusal t out = orElse (tableRefusal t) (cond (ltb (length out) (tableSize t)) 11 0)
 
 -- `write`: the refusal beside the number of bytes written
 unfoldable pub writeAnswer : Table → List ℕ → Writing
-writeAnswer t out = record { refusal = writeRefusal t out; written = cond (eqb (writeRefusal t out) 0) (sizeOf (t .count)) 0 }
+writeAnswer t out = record { refusal = writeRefusal t out; written = cond (eqb (writeRefusal t out) 0) (tableSize t) 0 }
 
 -- the output after `write`: the sheet and then the bytes as they were, or all of it as it was
 unfoldable pub writeLeaves : Table → List ℕ → List ℕ
-writeLeaves t out = cond (eqb (writeRefusal t out) 0) (sheetOf t ++ drop (sizeOf (t .count)) out) out
+writeLeaves t out = cond (eqb (writeRefusal t out) 0) (sheetOf t ++ drop (tableSize t) out) out
 
 -- `judge_place`: the sheet's refusal, then 12, "the record place asked for is not below the count"
 unfoldable pub placeRefusal : List ℕ → ℕ → ℕ
@@ -36,7 +36,7 @@ placeRefusal sheet place = orElse (sheetRefusal sheet) (cond (ltb place (countOf
 
 -- where in the sheet the part handed back starts: at the record, or at the sheet's start where it is refused
 unfoldable pub partStart : List ℕ → ℕ → ℕ
-partStart sheet place = cond (eqb (placeRefusal sheet place) 0) (3 + 9 * place) 0
+partStart sheet place = cond (eqb (placeRefusal sheet place) 0) (startOf sheet + 9 * place) 0
 
 -- its bytes: the record's nine, or none
 unfoldable pub partBytes : List ℕ → ℕ → List ℕ

@@ -1,16 +1,21 @@
--- The refusal table of document 01 row by row, as propositions, and what it is for a refusal to be tried in the table's order. Assumes nothing.
+-- The refusals row by row, in the order they are tried, as propositions: document 01's table with what document 02, ask 6, made of it; and what it is for a refusal to be given in that order. A second reading, which the refusals are proved to follow; no public promise cites it. Assumes nothing.
 use Prim.Native.Nat.{ℕ, _+_, _*_, _≤_, _<_}
 use mathlib.Core.Path.{_≡_}
 use mathlib.Core.Logic.{_⊎_, _↔_}
-use mathlib.Core.List.{List, [], _∷_}
+use mathlib.Core.List.{List, [], _∷_, _++_}
 use lib.ListN.{length}
 use Rattle.sheet.specs.declared.Record.{Record}
 use Rattle.sheet.specs.declared.Table.{Table}
-use Rattle.sheet.specs.Layout.{countOf, reservedOf, intervalOf}
+use Rattle.sheet.specs.Places.{joinedBelow}
+use Rattle.sheet.specs.Layout.{countOf, editionOf, intervalOf, roundOf, shareOf, sheetRecord, recordAt}
 
 -- "0 or above" a limit, which is "outside 1 to" that limit
 abbrev pub Outside : ℕ → ℕ → Type 0
 Outside x limit = (x ≡ 0) ⊎ (limit < x)
+
+-- "S zero or not below Q"
+abbrev pub WrongShare : ℕ → ℕ → Type 0
+WrongShare round share = (share ≡ 0) ⊎ (round ≤ share)
 
 -- a row of the table: its number, and what it is "given exactly when"
 pub data Row : Type 1 where
@@ -23,23 +28,6 @@ countRow count = row 2 (Outside count 8)
 -- "E is 0"
 abbrev pub intervalRow : ℕ → Row
 intervalRow interval = row 5 (interval ≡ 0)
-
--- Rules 1 to 5 for a sheet
-unfoldable pub sheetRows : List ℕ → List Row
-sheetRows sheet =
-    -- "the sheet has fewer than 3 bytes"
-    row 1 (length sheet < 3) ∷
-    countRow (countOf sheet) ∷
-    -- "a reserved bit is set"
-    row 3 (reservedOf sheet ≡ 0 → ⊥) ∷
-    -- "the length is not 3 + 9 × count"
-    row 4 (length sheet ≡ 3 + 9 * countOf sheet → ⊥) ∷
-    intervalRow (intervalOf sheet) ∷
-    []
-
--- "A table handed in by value is judged by the same rules where they apply (2, 5 to 10)": those of 1 to 5
-unfoldable pub tableRows : Table → List Row
-tableRows t = countRow (t .count) ∷ intervalRow (t .interval) ∷ []
 
 -- Rules 6 to 10 for the record at a place, among n
 unfoldable pub recordRows : ℕ → (ℕ → Record) → ℕ → List Row
@@ -56,34 +44,62 @@ recordRows n at place =
     row 10 (Outside (at place .«fault_priority») (at place .priority)) ∷
     []
 
--- the rule with the number r is broken: what a row of that number is given for holds
-abbrev pub Broken : List Row → ℕ → Type 0
-Broken [] r = ⊥
-Broken (row number reason ∷ rows) r = ((r ≡ number) × reason) ⊎ Broken rows r
+-- "Rules 6 to 10 are tried in that order on the first record, then on the next."
+abbrev pub recordsRows : ℕ → (ℕ → Record) → List Row
+recordsRows n at = joinedBelow (recordRows n at) n
+
+-- what is tried on a sheet before its records
+unfoldable pub headerRows : List ℕ → List Row
+headerRows sheet =
+    -- "the sheet has fewer than 3 bytes"
+    row 1 (length sheet < 3) ∷
+    countRow (countOf sheet) ∷
+    -- "3 now means reserved bits above 1"
+    row 3 (1 < editionOf sheet) ∷
+    -- "1 also means fewer than 7 bytes in the new edition, tried after 3"
+    row 1 ((editionOf sheet ≡ 1) × (length sheet < 7)) ∷
+    -- "the length is not 3 + 9 × count", and in the new edition "its length is 7 + 9n"
+    row 4 (((editionOf sheet ≡ 0) × (length sheet ≡ 3 + 9 * countOf sheet → ⊥)) ⊎ ((editionOf sheet ≡ 1) × (length sheet ≡ 7 + 9 * countOf sheet → ⊥))) ∷
+    intervalRow (intervalOf sheet) ∷
+    -- "18, S zero or not below Q, is tried after 5"
+    row 18 ((editionOf sheet ≡ 1) × WrongShare (roundOf sheet) (shareOf sheet)) ∷
+    []
+
+-- what is tried on a sheet
+abbrev pub sheetRows : List ℕ → List Row
+sheetRows sheet = headerRows sheet ++ recordsRows (countOf sheet) (sheetRecord sheet)
+
+-- "A table handed in by value is judged by the same rules where they apply (2, 5 to 10)", and by 18 "but for that one", Q = S = 1: what is tried on it before its records
+unfoldable pub figuresRows : Table → List Row
+figuresRows t =
+    countRow (t .count) ∷
+    intervalRow (t .interval) ∷
+    row 18 (((t .round ≡ 1) × (t .share ≡ 1) → ⊥) × WrongShare (t .round) (t .share)) ∷
+    []
+
+-- what is tried on a table by value
+abbrev pub tableRows : Table → List Row
+tableRows t = figuresRows t ++ recordsRows (t .count) (recordAt (t .records))
 
 -- no rule is broken
 abbrev pub NoneBroken : List Row → Type 0
-NoneBroken rows = (r : ℕ) → Broken rows r → ⊥
+NoneBroken [] = Unit
+NoneBroken (row number reason ∷ rows) = (reason → ⊥) × NoneBroken rows
 
--- r is the first rule that is broken, in the order of the numbers
-pub record FirstBroken (rows : List Row) (r : ℕ) : Type 0 where
-  pub broken : Broken rows r
-  pub none-before : (e : ℕ) → e < r → Broken rows e → ⊥
+-- r is the number of the first row, in the order of the list, whose rule is broken
+abbrev pub FirstBroken : List Row → ℕ → Type 0
+FirstBroken [] r = ⊥
+FirstBroken (row number reason ∷ rows) r = ((r ≡ number) × reason) ⊎ ((reason → ⊥) × FirstBroken rows r)
 
--- "Rules 6 to 10 are tried in that order on the first record, then on the next.": r is the first rule broken by the first record that breaks one
-pub record FirstRecord (n : ℕ) (rows : ℕ → List Row) (r : ℕ) : Type 0 where
-  pub place : ℕ
-  pub below : place < n
-  pub first : FirstBroken (rows place) r
-  pub none-before : (j : ℕ) → j < place → NoneBroken (rows j)
+-- the numbers of the rows of a sheet and of a table
+abbrev pub RuleNumber : ℕ → Type 0
+RuleNumber r = ((1 ≤ r) × (r ≤ 10)) ⊎ (r ≡ 18)
 
--- The refusal numbers are given "in the order they are tried": what each value of a refusal means, of the rules 1 to 5 and of 6 to 10 for each place below n.
-pub record InOrder (rows : List Row) (n : ℕ) (places : ℕ → List Row) (refusal : ℕ) : Type 0 where
-  -- it is one of 1 to 5 exactly when that is the first of these to be broken
-  pub header-order : (r : ℕ) → 1 ≤ r → r ≤ 5 → (refusal ≡ r) ↔ FirstBroken rows r
-  -- it is one of 6 to 10 exactly when none of 1 to 5 is broken, and that is the first to be broken, record after record
-  pub records-order : (r : ℕ) → 6 ≤ r → r ≤ 10 → (refusal ≡ r) ↔ (NoneBroken rows × FirstRecord n places r)
+-- The refusal numbers are given "in the order they are tried": what each value of a refusal means, of rows with the given numbers.
+pub record InOrder (Number : ℕ → Type 0) (rows : List Row) (refusal : ℕ) : Type 0 where
+  -- it is a number exactly when that is the first rule to be broken
+  pub first-order : (r : ℕ) → 1 ≤ r → (refusal ≡ r) ↔ FirstBroken rows r
   -- it is 0 exactly when no rule is broken
-  pub good-order : (refusal ≡ 0) ↔ (NoneBroken rows × ((place : ℕ) → place < n → NoneBroken (places place)))
+  pub good-order : (refusal ≡ 0) ↔ NoneBroken rows
   -- it is no other number
-  pub range : refusal ≤ 10
+  pub range : (refusal ≡ 0) ⊎ Number refusal

@@ -1,15 +1,22 @@
--- The sheet's layout: header, records, the table read from a sheet, and the sheet of a table.
+-- The sheet's layout in both editions: header, records, the table read from a sheet, and the sheet of a table. The editions differ in the header's widths only.
 use Prim.Native.Nat.{ℕ, _+_, _*_}
+use mathlib.Core.Bool.{Bool, cond, _&&_}
 use mathlib.Core.List.{List, [], _∷_, _++_}
+use lib.Dec.{eqb}
 use lib.ListN.{getD, take, drop, replicate}
 use Rattle.sheet.specs.declared.Record.{Record}
 use Rattle.sheet.specs.declared.Table.{Table}
 use Rattle.sheet.specs.Places.{joinedBelow, filledBelow}
 use Rattle.sheet.specs.Packing.{regrouped}
 
--- "Header, 3 bytes: task count (4 bits), reserved (4 bits, zero), fault interval E (16 bits)."
-abbrev pub headerWidths : List ℕ
-headerWidths = 4 ∷ 4 ∷ 16 ∷ []
+-- Document 01: "Header, 3 bytes: task count (4 bits), reserved (4 bits, zero), fault interval E (16 bits)."
+-- Document 02: "A second sheet edition has reserved bits 0001 and 16-bit Q and S after E". The number in the reserved bits is the edition's, 0 for the old one and 1 for the new.
+abbrev pub headerWidths : ℕ → List ℕ
+headerWidths edition = 4 ∷ 4 ∷ 16 ∷ replicate (2 * edition) 16
+
+-- the header's bytes: 3 in the old edition, 7 in the new
+abbrev pub headerSize : ℕ → ℕ
+headerSize edition = 3 + 4 * edition
 
 -- "Then one record of 9 bytes for each task: cost C, backup cost B, deadline D, period T (16 bits each), priority p (4 bits), fault priority q (4 bits)."
 abbrev pub recordWidths : List ℕ
@@ -19,26 +26,45 @@ recordWidths = 16 ∷ 16 ∷ 16 ∷ 16 ∷ 4 ∷ 4 ∷ []
 abbrev pub bytes : ℕ → List ℕ
 bytes n = replicate n 8
 
--- the header's fields: count, reserved bits, interval
-unfoldable pub headerOf : List ℕ → List ℕ
-headerOf sheet = regrouped (bytes 3) headerWidths (take 3 sheet)
+-- the header's fields in an edition: count, reserved bits, interval, and in the new one Q and S
+unfoldable pub headerOf : ℕ → List ℕ → List ℕ
+headerOf edition sheet = regrouped (bytes (headerSize edition)) (headerWidths edition) (take (headerSize edition) sheet)
 
+-- the count; the first three fields stand at the same bits in both editions, so they are read as the old one's
 unfoldable pub countOf : List ℕ → ℕ
-countOf sheet = getD (headerOf sheet) 0 0
+countOf sheet = getD (headerOf 0 sheet) 0 0
 
-unfoldable pub reservedOf : List ℕ → ℕ
-reservedOf sheet = getD (headerOf sheet) 1 0
+-- the reserved bits, which number the edition
+unfoldable pub editionOf : List ℕ → ℕ
+editionOf sheet = getD (headerOf 0 sheet) 1 0
 
+-- the fault interval E
 unfoldable pub intervalOf : List ℕ → ℕ
-intervalOf sheet = getD (headerOf sheet) 2 0
+intervalOf sheet = getD (headerOf 0 sheet) 2 0
 
--- the bytes of a sheet or of what is written for n tasks
-unfoldable pub sizeOf : ℕ → ℕ
-sizeOf n = 3 + 9 * n
+-- the fields after these, each 1 in the edition that has none: "The old edition means the whole processor, carried in the table as Q = S = 1"
+abbrev pub newField : List ℕ → ℕ → ℕ
+newField sheet index = getD (headerOf (editionOf sheet) sheet) (3 + index) 1
 
--- the nine bytes of the record at a place, from 3 + 9k to 12 + 9k
+-- the round Q
+unfoldable pub roundOf : List ℕ → ℕ
+roundOf sheet = newField sheet 0
+
+-- the share S
+unfoldable pub shareOf : List ℕ → ℕ
+shareOf sheet = newField sheet 1
+
+-- where a sheet's records start, after its header
+unfoldable pub startOf : List ℕ → ℕ
+startOf sheet = headerSize (editionOf sheet)
+
+-- the bytes of a sheet of n tasks in an edition: 3 + 9n, or 7 + 9n
+unfoldable pub sizeOf : ℕ → ℕ → ℕ
+sizeOf edition n = headerSize edition + 9 * n
+
+-- the nine bytes of the record at a place k, from 3 + 9k to 12 + 9k, or from 7 + 9k to 16 + 9k
 unfoldable pub partOf : List ℕ → ℕ → List ℕ
-partOf sheet place = take 9 (drop (3 + 9 * place) sheet)
+partOf sheet place = take 9 (drop (startOf sheet + 9 * place) sheet)
 
 -- a record from its six fields, in their order
 unfoldable pub recordFrom : List ℕ → Record
@@ -76,26 +102,53 @@ recordAt records place = getD records place noRecord
 unfoldable pub room : (ℕ → Record) → ℕ → List Record
 room at count = filledBelow at count (replicate 8 noRecord)
 
--- the table read from a sheet: "a count, the interval and room for eight records"
+-- the table read from a sheet: "a count, the interval and room for eight records", with Q and S beside the interval
 unfoldable pub tableOf : List ℕ → Table
-tableOf sheet = record { count = countOf sheet; interval = intervalOf sheet; records = room (sheetRecord sheet) (countOf sheet) }
+tableOf sheet =
+    record {
+      count = countOf sheet;
+      interval = intervalOf sheet;
+      round = roundOf sheet;
+      share = shareOf sheet;
+      records = room (sheetRecord sheet) (countOf sheet);
+    }
 
 -- a table with its records past the count zero
 unfoldable pub cleared : Table → Table
-cleared t = record { count = t .count; interval = t .interval; records = room (recordAt (t .records)) (t .count) }
+cleared t = record { count = t .count; interval = t .interval; round = t .round; share = t .share; records = room (recordAt (t .records)) (t .count) }
 
 -- a table of zeros
 abbrev pub noTable : Table
-noTable = record { count = 0; interval = 0; records = replicate 8 noRecord }
+noTable = record { count = 0; interval = 0; round = 0; share = 0; records = replicate 8 noRecord }
+
+-- "the whole processor, carried in the table as Q = S = 1"
+unfoldable pub isWhole : ℕ → ℕ → Bool
+isWhole round share = eqb round 1 && eqb share 1
+
+-- the edition that a round and a share are written in: the old one exactly for the whole processor
+unfoldable pub editionFor : ℕ → ℕ → ℕ
+editionFor round share = cond (isWhole round share) 0 1
+
+-- the same of a table
+abbrev pub tableEdition : Table → ℕ
+tableEdition t = editionFor (t .round) (t .share)
+
+-- the bytes of what is written for a table
+unfoldable pub tableSize : Table → ℕ
+tableSize t = sizeOf (tableEdition t) (t .count)
 
 -- a record's nine bytes
 unfoldable pub recordBytes : Record → List ℕ
 recordBytes r = regrouped recordWidths (bytes 9) (fieldsOf r)
 
--- the header's three bytes
-unfoldable pub headerBytes : ℕ → ℕ → List ℕ
-headerBytes count interval = regrouped headerWidths (bytes 3) (count ∷ 0 ∷ interval ∷ [])
+-- the fields of a table's header, in their order: as many as its edition has
+unfoldable pub headerFields : Table → List ℕ
+headerFields t = t .count ∷ tableEdition t ∷ t .interval ∷ take (2 * tableEdition t) (t .round ∷ t .share ∷ [])
+
+-- the bytes of a table's header
+unfoldable pub headerBytes : Table → List ℕ
+headerBytes t = regrouped (headerWidths (tableEdition t)) (bytes (headerSize (tableEdition t))) (headerFields t)
 
 -- the sheet of a table
 unfoldable pub sheetOf : Table → List ℕ
-sheetOf t = headerBytes (t .count) (t .interval) ++ joinedBelow (λ place. recordBytes (recordAt (t .records) place)) (t .count)
+sheetOf t = headerBytes t ++ joinedBelow (λ place. recordBytes (recordAt (t .records) place)) (t .count)

@@ -1,4 +1,4 @@
--- What is said over the places 0, 1, .. below a count: some, the first refusal, bytes one after the other, a list filled from its start.
+-- What is said over the places 0, 1, .. below a count: some, the first refusal, lists one after the other, a list filled from its start.
 use Prim.Native.Nat.{ℕ, zero, suc}
 use mathlib.Core.Bool.{Bool, false, cond, _||_}
 use mathlib.Core.List.{List, [], _++_}
@@ -19,10 +19,11 @@ unfoldable pub someBelow : (ℕ → Bool) → ℕ → Bool
 someBelow test zero = false
 someBelow test (suc n) = someBelow test n || test n
 
--- the bytes of each place below n, one place after the other
-unfoldable pub joinedBelow : (ℕ → List ℕ) → ℕ → List ℕ
-joinedBelow bytes zero = []
-joinedBelow bytes (suc n) = joinedBelow bytes n ++ bytes n
+module _ {ℓ} {A : Type ℓ} where
+  -- the list of each place below n, one place after the other
+  unfoldable pub joinedBelow : (ℕ → List A) → ℕ → List A
+  joinedBelow lists zero = []
+  joinedBelow lists (suc n) = joinedBelow lists n ++ lists n
 
 module _ {A : Type 0} where
   -- the list with each place below n filled by the place's value

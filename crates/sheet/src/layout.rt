@@ -1,10 +1,10 @@
-// The sheet's layout as code: fields read from bytes, fields put into bytes, records and tables made of them.
+// The sheet's layout as code, in both editions: fields read from bytes, fields put into bytes, records and tables made of them.
 ghost use mathlib.Core.Path.{_≡_};
 ghost use mathlib.Core.List.{[], _∷_, _++_};
 ghost use Prim.Native.Nat.{_+_, _*_, _/_, _%_, _≤_, _<_};
 ghost use lib.ListN.{length, getD, drop};
 ghost use lib.Seq.{sets};
-ghost use Rattle.sheet.specs.Layout.{countOf, reservedOf, intervalOf, sizeOf, recordOf, room, sheetRecord, tableOf, noRecord, noTable, recordAt, recordBytes, headerBytes, sheetOf};
+ghost use Rattle.sheet.specs.Layout.{countOf, editionOf, intervalOf, newField, roundOf, shareOf, headerSize, startOf, sizeOf, editionFor, tableEdition, tableSize, recordOf, room, sheetRecord, tableOf, noRecord, noTable, recordAt, recordBytes, headerBytes, sheetOf};
 ghost use Rattle.sheet.specs.Places.{joinedBelow};
 ghost use Rattle.sheet.specs.Rules.{recordsRefusal, tableRefusal};
 use crate::Record;
@@ -26,10 +26,10 @@ pub fn count(sheet: &[u8]) -> u8
     sheet[0] / 16
 }
 
-// The header's reserved bits.
-pub fn reserved(sheet: &[u8]) -> u8
+// The header's reserved bits, which number the sheet's edition.
+pub fn edition(sheet: &[u8]) -> u8
     requires { ⌜ 3 ≤ length (now sheet) ⌝ }
-    ensures { λ r. ⌜ r ≡ reservedOf (now (sheet .entry)) ⌝ }
+    ensures { λ r. ⌜ r ≡ editionOf (now (sheet .entry)) ⌝ }
 {
     sheet[0] % 16
 }
@@ -42,11 +42,63 @@ pub fn interval(sheet: &[u8]) -> u16
     field(sheet, 1)
 }
 
-// The bytes of a sheet of so many records.
-pub fn size(count: u8) -> usize
-    ensures { λ r. ⌜ r ≡ sizeOf count ⌝ }
+// One of the two fields that only the new edition's header has, 1 in the old one.
+fn new_field(sheet: &[u8], index: usize) -> u16
+    requires { ⌜ (3 ≤ length (now sheet)) × (editionOf (now sheet) ≤ 1) × (startOf (now sheet) ≤ length (now sheet)) × (index < 2) ⌝ }
+    ensures { λ r. ⌜ r ≡ newField (now (sheet .entry)) index ⌝ }
 {
-    3 + 9 * count as usize
+    if edition(sheet) == 0 {
+        return 1;
+    }
+    field(sheet, 3 + 2 * index)
+}
+
+// The header's round, 1 in the edition that has none.
+pub fn round(sheet: &[u8]) -> u16
+    requires { ⌜ (3 ≤ length (now sheet)) × (editionOf (now sheet) ≤ 1) × (startOf (now sheet) ≤ length (now sheet)) ⌝ }
+    ensures { λ r. ⌜ r ≡ roundOf (now (sheet .entry)) ⌝ }
+{
+    new_field(sheet, 0)
+}
+
+// The header's share of the round, 1 in the edition that has none.
+pub fn share(sheet: &[u8]) -> u16
+    requires { ⌜ (3 ≤ length (now sheet)) × (editionOf (now sheet) ≤ 1) × (startOf (now sheet) ≤ length (now sheet)) ⌝ }
+    ensures { λ r. ⌜ r ≡ shareOf (now (sheet .entry)) ⌝ }
+{
+    new_field(sheet, 1)
+}
+
+// The bytes of an edition's header.
+pub fn header_size(edition: u8) -> usize
+    ensures { λ r. ⌜ r ≡ headerSize edition ⌝ }
+{
+    3 + 4 * edition as usize
+}
+
+// Where a sheet's records start.
+pub fn start(sheet: &[u8]) -> usize
+    requires { ⌜ 3 ≤ length (now sheet) ⌝ }
+    ensures { λ r. ⌜ r ≡ startOf (now (sheet .entry)) ⌝ }
+{
+    header_size(edition(sheet))
+}
+
+// The bytes of a sheet of so many records in an edition.
+pub fn size(edition: u8, count: u8) -> usize
+    ensures { λ r. ⌜ r ≡ sizeOf edition count ⌝ }
+{
+    header_size(edition) + 9 * count as usize
+}
+
+// The edition that a table is written in: the old one for the whole processor.
+pub fn edition_for(round: u16, share: u16) -> u8
+    ensures { λ r. ⌜ r ≡ editionFor round share ⌝ }
+{
+    if round != 1 {
+        return 1;
+    }
+    if share == 1 { 0 } else { 1 }
 }
 
 // The record that nine bytes hold.
@@ -85,21 +137,24 @@ pub fn no_table() -> Table
     Table {
         count: 0,
         interval: 0,
+        round: 0,
+        share: 0,
         records: [no_record(); 8],
     }
 }
 
 // The records of a sheet, zero past the count.
 pub fn records_of(sheet: &[u8], count: u8) -> [Record; 8]
-    requires { ⌜ (count ≤ 8) × (length (now sheet) ≡ sizeOf count) ⌝ }
+    requires { ⌜ (count ≤ 8) × (length (now sheet) ≡ sizeOf (editionOf (now sheet)) count) ⌝ }
     ensures { λ r. ⌜ r ≡ room (sheetRecord (now (sheet .entry))) count ⌝ }
 {
     let mut records = [no_record(); 8];
+    let first = start(sheet);
     let mut place: usize = 0;
     while place < count as usize {
-        let start = 3 + 9 * place;
-        let end = start + 9;
-        records[place] = record_from(&sheet[start..end]);
+        let begin = first + 9 * place;
+        let end = begin + 9;
+        records[place] = record_from(&sheet[begin..end]);
         place += 1;
     }
     records
@@ -107,7 +162,7 @@ pub fn records_of(sheet: &[u8], count: u8) -> [Record; 8]
 
 // The table that a sheet of the right length holds.
 pub fn table_of(sheet: &[u8]) -> Table
-    requires { ⌜ (countOf (now sheet) ≤ 8) × (length (now sheet) ≡ sizeOf (countOf (now sheet))) ⌝ }
+    requires { ⌜ (countOf (now sheet) ≤ 8) × (editionOf (now sheet) ≤ 1) × (length (now sheet) ≡ sizeOf (editionOf (now sheet)) (countOf (now sheet))) ⌝ }
     ensures { λ r. ⌜ r ≡ tableOf (now (sheet .entry)) ⌝ }
 {
     let tasks = count(sheet);
@@ -115,6 +170,8 @@ pub fn table_of(sheet: &[u8]) -> Table
     Table {
         count: tasks,
         interval: interval(sheet),
+        round: round(sheet),
+        share: share(sheet),
         records,
     }
 }
@@ -140,33 +197,40 @@ fn put_record(out: &mut [u8], at: usize, task: Record)
     out[at + 8] = task.priority * 16 + task.fault_priority;
 }
 
-// Puts the records after the header.
-fn put_records(out: &mut [u8], records: [Record; 8], count: u8)
-    requires { ⌜ (count ≤ 8) × (sizeOf count ≤ length (now out)) × (recordsRefusal count (recordAt records) ≡ 0) ⌝ }
-    ensures { λ _. ⌜ now (out .exit) ≡ sets (now (out .entry)) 3 (joinedBelow (λ place. recordBytes (recordAt records place)) count) ⌝ }
+// Puts the records from a start on.
+fn put_records(out: &mut [u8], start: usize, records: [Record; 8], count: u8)
+    requires { ⌜ (count ≤ 8) × (start + 9 * count ≤ length (now out)) × (recordsRefusal count (recordAt records) ≡ 0) ⌝ }
+    ensures { λ _. ⌜ now (out .exit) ≡ sets (now (out .entry)) start (joinedBelow (λ place. recordBytes (recordAt records place)) count) ⌝ }
 {
     let mut place: usize = 0;
     while place < count as usize {
-        put_record(out, 3 + 9 * place, records[place]);
+        put_record(out, start + 9 * place, records[place]);
         place += 1;
     }
 }
 
-// Puts the header's three bytes.
-fn put_header(out: &mut [u8], count: u8, interval: u16)
-    requires { ⌜ (3 ≤ length (now out)) × (count < 16) ⌝ }
-    ensures { λ _. ⌜ now (out .exit) ≡ sets (now (out .entry)) 0 (headerBytes count interval) ⌝ }
+// Puts the header of a table's edition.
+fn put_header(out: &mut [u8], table: Table)
+    requires { ⌜ (headerSize (tableEdition table) ≤ length (now out)) × (table .count < 16) ⌝ }
+    ensures { λ _. ⌜ now (out .exit) ≡ sets (now (out .entry)) 0 (headerBytes table) ⌝ }
 {
-    out[0] = count * 16;
-    put_field(out, 1, interval);
+    let edition = edition_for(table.round, table.share);
+    out[0] = table.count * 16 + edition;
+    put_field(out, 1, table.interval);
+    if edition == 0 {
+        return;
+    }
+    put_field(out, 3, table.round);
+    put_field(out, 5, table.share);
 }
 
 // Puts a good table's sheet at the start of an output that is long enough.
 pub fn put_sheet(out: &mut [u8], table: Table)
-    requires { ⌜ (tableRefusal table ≡ 0) × (sizeOf (table .count) ≤ length (now out)) ⌝ }
-    ensures { λ _. ⌜ now (out .exit) ≡ sheetOf table ++ drop (sizeOf (table .count)) (now (out .entry)) ⌝ }
+    requires { ⌜ (tableRefusal table ≡ 0) × (tableSize table ≤ length (now out)) ⌝ }
+    ensures { λ _. ⌜ now (out .exit) ≡ sheetOf table ++ drop (tableSize table) (now (out .entry)) ⌝ }
 {
+    let edition = edition_for(table.round, table.share);
     let records = table.records;
-    put_header(out, table.count, table.interval);
-    put_records(out, records, table.count);
+    put_header(out, table);
+    put_records(out, header_size(edition), records, table.count);
 }

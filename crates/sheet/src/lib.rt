@@ -1,4 +1,4 @@
-// Timing sheets: records and tables, the rules they are judged by, the reader, the writer, and one record's own bytes.
+// Timing sheets in both editions: records and tables, the rules they are judged by, the reader, the writer, and one record's own bytes.
 // Every call answers any bytes, numbers and tables; a refusal gives its number, and zeros or an empty part beside it.
 ghost use mathlib.Core.Path.{_≡_};
 ghost use Rattle.sheet.specs.Rules.{sheetRefusal, tableRefusal};
@@ -17,10 +17,12 @@ pub struct Record {
     pub fault_priority: u8,
 }
 
-// A count, the fault interval and room for eight records; those past the count are ignored, and zero when read.
+// A count, the fault interval, the round and our share of it, and room for eight records; those past the count are ignored, and zero when read.
 pub struct Table {
     pub count: u8,
     pub interval: u16,
+    pub round: u16,
+    pub share: u16,
     pub records: [Record; 8],
 }
 
@@ -54,17 +56,21 @@ pub fn judge(sheet: &[u8]) -> u8
     rules::judge_records(layout::records_of(sheet, count), count)
 }
 
-// The same for a table by value: rules 2 and 5 to 10.
+// The same for a table by value: rules 2, 5, 18 and 6 to 10.
 pub fn judge_table(table: Table) -> u8
     ensures { λ r. ⌜ r ≡ tableRefusal table ⌝ }
 {
     let count = table.count;
     let records = table.records;
+    let edition = layout::edition_for(table.round, table.share);
     if rules::outside(count as u16, 8) {
         return 2;
     }
     if table.interval == 0 {
         return 5;
+    }
+    if rules::wrong_share(edition, table.round, table.share) {
+        return 18;
     }
     rules::judge_records(records, count)
 }
@@ -97,7 +103,8 @@ pub fn write(table: Table, out: &mut [u8]) -> Writing
             written: 0,
         };
     }
-    let size = layout::size(table.count);
+    let edition = layout::edition_for(table.round, table.share);
+    let size = layout::size(edition, table.count);
     if out.len() < size {
         return Writing {
             refusal: 11,
@@ -133,7 +140,7 @@ pub fn record_part(sheet: &[u8], place: usize) -> &[u8]
     if judge_place(sheet, place) != 0 {
         return &sheet[..0];
     }
-    let start = 3 + 9 * place;
+    let start = layout::start(sheet) + 9 * place;
     let end = start + 9;
     &sheet[start..end]
 }

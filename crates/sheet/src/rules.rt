@@ -1,11 +1,11 @@
-// The rules of document 01, 1 to 10, as code: over a sheet's header, and over records by value.
+// The rules that sheets and tables are judged by, 1 to 10 and 18, as code: over a sheet's header, and over records by value.
 // Which priorities earlier records have is kept as sixteen marks, one for each value of the sheet's four bits.
 ghost use mathlib.Core.Path.{_≡_};
 ghost use mathlib.Core.Bool.{true, false};
 ghost use Prim.Native.Nat.{_≤_};
 ghost use lib.ListN.{getD};
 ghost use Rattle.sheet.specs.Layout.{recordAt};
-ghost use Rattle.sheet.specs.Rules.{outside, refusalOf, headerRefusal, recordsRefusal};
+ghost use Rattle.sheet.specs.Rules.{outside, wrongShare, refusalOf, headerRefusal, recordsRefusal};
 use crate::Record;
 use crate::layout;
 
@@ -19,7 +19,20 @@ pub fn outside(x: u16, limit: u16) -> bool
     limit < x
 }
 
-// Rules 1 to 5.
+// Whether the share is zero or not below the round, in the edition that has them.
+pub fn wrong_share(edition: u8, round: u16, share: u16) -> bool
+    ensures { λ r. ⌜ r ≡ wrongShare edition round share ⌝ }
+{
+    if edition == 0 {
+        return false;
+    }
+    if share == 0 {
+        return true;
+    }
+    round <= share
+}
+
+// Rules 1 to 5, with 1 again after 3, and 18.
 pub fn judge_header(sheet: &[u8]) -> u8
     ensures { λ r. ⌜ r ≡ headerRefusal (now (sheet .entry)) ⌝ }
 {
@@ -30,14 +43,21 @@ pub fn judge_header(sheet: &[u8]) -> u8
     if outside(count as u16, 8) {
         return 2;
     }
-    if layout::reserved(sheet) != 0 {
+    let edition = layout::edition(sheet);
+    if 1 < edition {
         return 3;
     }
-    if sheet.len() != layout::size(count) {
+    if sheet.len() < layout::header_size(edition) {
+        return 1;
+    }
+    if sheet.len() != layout::size(edition, count) {
         return 4;
     }
     if layout::interval(sheet) == 0 {
         return 5;
+    }
+    if wrong_share(edition, layout::round(sheet), layout::share(sheet)) {
+        return 18;
     }
     0
 }

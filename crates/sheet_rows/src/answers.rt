@@ -57,19 +57,19 @@ pub fn read(list: &[u8], start: usize, at: usize) -> usize {
     say_read(list, at, sheet::read(sheet), rows::figure(list, start, 3))
 }
 
-// The same of what is read of a table that was written into thirty bytes.
+// The same of what is read of a table that was written into thirty-four bytes.
 pub fn written_and_read(list: &[u8], start: usize, at: usize) -> usize {
-    let mut written = [0u8; 30];
-    sheet::write(samples::table(list, start), &mut written);
+    let mut written = [0u8; 34];
+    let answer = sheet::write(samples::table(list, start), &mut written);
     say_read(
         list,
         at,
-        sheet::read(&written),
+        sheet::read(rows::first(&written, answer.written)),
         rows::figure(list, start, 2),
     )
 }
 
-// Says a field of what was read: 0 for the refusal, 1 for the count, 2 for the interval, and from 3 on the records.
+// Says a field of what was read: 0 for the refusal, 1 for the count, 2 for the interval, from 3 on the records, 11 for the round and 12 for the share.
 fn say_read(list: &[u8], at: usize, reading: Reading, field: u64) -> usize {
     let table = reading.table;
     let records = table.records;
@@ -77,6 +77,8 @@ fn say_read(list: &[u8], at: usize, reading: Reading, field: u64) -> usize {
         0 => rows::say_spaced(list, at, wide(reading.refusal)),
         1 => rows::say_spaced(list, at, wide(table.count)),
         2 => rows::say_spaced(list, at, table.interval as u64),
+        11 => rows::say_spaced(list, at, table.round as u64),
+        12 => rows::say_spaced(list, at, table.share as u64),
         _ => say_record(list, at, records[((field % 8 + 5) % 8) as usize]),
     }
 }
@@ -96,7 +98,7 @@ pub fn read_and_written(list: &[u8], start: usize, at: usize) -> usize {
     let bytes = samples::sheet(list, start);
     let sheet = rows::first(&bytes, rows::figure(list, start, 2) as usize);
     let reading = sheet::read(sheet);
-    let mut buffer = [0u8; 75];
+    let mut buffer = [0u8; 79];
     let answer = sheet::write(reading.table, &mut buffer);
     say_list(list, at, rows::first(&buffer, answer.written))
 }

@@ -1,4 +1,4 @@
-// Runs document 01's rows about sheets, and rows around each rule of a sheet, which its standard input lists, and prints each with its answer.
+// Runs document 01's rows about sheets, row 16 as document 02 has it, and rows around each rule of a sheet in both editions, which its standard input lists, and prints each with its answer.
 // A line that ends in EXPECTED and what was expected is a row that differs; the last line counts the rows and those that differ.
 // The figures of each form of row stand at the form's function.
 mod answers;

@@ -23,20 +23,28 @@ const SHEET_EIGHT: [u8; 75] = *b"\x80\x01\x2C\
 const SHEET_LONE: [u8; 12] = *b"\x10\xFF\xFF\
     \xFF\xFF\xFF\xFF\xFF\xFF\xFF\xFF\x11";
 
+// Sheet A in the new edition, with a round of 20 and a share of 19.
+const SHEET_SHARED: [u8; 34] = *b"\x31\x00\x09\x00\x14\x00\x13\
+    \x00\x04\x00\x04\x00\x0C\x00\x0C\x33\
+    \x00\x03\x00\x03\x00\x14\x00\x14\x22\
+    \x00\x01\x00\x01\x00\x23\x00\x23\x11";
+
 // The table that the sheet of eight tasks holds.
 const TABLE_EIGHT: [u8; 144] =
     *b"8 8 300 257 272 1000 2000 5 5 2 3 4 5 8 1 256 512 512 768 1 1 7 6 8 8 3 2 \
     65535 65535 65535 65535 7 7 1 1 1 1 2 1 9 9 4096 8192 6 3 1 2 3 4 4 4|";
 
-// A byte of a sheet by its number, 1 for Sheet A, 2 for eight tasks, 3 for the lone task; 0 past the sheet's end.
+// A byte of a sheet by its number, 1 for Sheet A, 2 for eight tasks, 3 for the lone task, 4 for Sheet A in the new edition; 0 past the sheet's end.
 fn byte(which: u64, place: usize) -> u8 {
     let a = SHEET_A;
     let eight = SHEET_EIGHT;
     let lone = SHEET_LONE;
+    let shared = SHEET_SHARED;
     match which {
         1 => rows::byte(&a, place),
         2 => rows::byte(&eight, place),
-        _ => rows::byte(&lone, place),
+        3 => rows::byte(&lone, place),
+        _ => rows::byte(&shared, place),
     }
 }
 

@@ -1,40 +1,22 @@
 -- `fidhaqooban::fq_write` meets its contract. Assumes nothing.
-use mathlib.Core.Path.{ap, _∙_}
-use native.Mathlib.Omega.{arith}
-use Rattle.sheet.specs.declared.Table.{Table}
-use Rattle.sheet.specs.Layout.{sizeOf}
-use Rattle.sheet.specs.Answers.{writeRefusal, writeLeaves}
-use Rattle.fidhaqooban.specs.Numbers.{answerOf, tableFrom, givenTable}
+use mathlib.Core.Path.{_∙_}
 use Rattle.fidhaqooban.specs.Answers.{writeNumber, writeLeft}
 use Rattle.fidhaqooban.proofs.Minus.{handed}
-use Rattle.fidhaqooban.proofs.Written.{written-room, write-is}
 use borrow.Author.Needs.{needs}
 use Rattle.fidhaqooban.proofs.fq_write.Statement.{statement}
 use Rattle.fidhaqooban.proofs.fq_write.Tie as tie
 
-table-requires : tie.Need-table-requires
-table-requires c κs = search needs
-
-write-requires : tie.Need-write-requires
-write-requires c κs = search needs
-
-answer-requires : tie.Need-answer-requires
-unfolding givenTable tableFrom sizeOf
-answer-requires c κs =
-    let table = c .before .before .before .before .table .ensures in
-    omega (arith, written-room _ _ _ (c .before .before .write .ensures .0), ap (λ (t : Table). t .count) table)
+fq-write-shared-requires : tie.Need-fq-write-shared-requires
+fq-write-shared-requires c κs = search needs
 
 same-length : tie.Need-same-length
 same-length c = search needs
 
 returns : tie.Need-returns
-unfolding writeNumber writeLeft givenTable tableFrom
+unfolding writeNumber writeLeft
 returns c =
-    let known = c .before .before .before .write .ensures in
-    let table = c .before .before .before .before .before .table .ensures in
-    let out = c .before .before .before .before .before .before .before .before .args .out .now in
-    (handed (c .answer .result) (c .answer .ok) ∙ c .answer .ensures ∙ write-is _ _ _ (known .0) ∙ ap (λ (t : Table). answerOf (writeRefusal t out) (sizeOf (t .count))) table, known .1 ∙ ap (λ (t : Table). writeLeaves t out) table)
+    let written = c .before .before .fq-write-shared in
+    (handed (written .result) (written .ok) ∙ written .ensures .0, written .ensures .1)
 
 pub fq-write-spec : {M : Type 1} → statement M
-fq-write-spec =
-    tie.close (tie.spec table-requires write-requires answer-requires same-length returns)
+fq-write-spec = tie.close (tie.spec fq-write-shared-requires same-length returns)

@@ -1,9 +1,11 @@
 -- `sheet::record_part` meets its contract: the part is the record's own place in the sheet. Assumes nothing.
-use Prim.Native.Nat.{_+_, _*_, _<_}
+use Prim.Native.Nat.{_+_, _*_, _≤_}
 use mathlib.Core.Path.{_≡_, refl, sym, _∙_}
 use native.Mathlib.Nat.{add-zero, add-comm}
 use borrow.Author.Tests.{ne-eqb}
 use native.Mathlib.Omega.{arith}
+use lib.ListN.{length}
+use Rattle.sheet.specs.Layout.{startOf}
 use Rattle.sheet.specs.Answers.{placeRefusal, partStart, partBytes}
 use Rattle.sheet.proofs.Cases.{good-place}
 use Rattle.sheet.proofs.Parts.{part-at, part-end}
@@ -15,12 +17,12 @@ use Rattle.sheet.proofs.record_part.Tie as tie
 passed : (c : tie.Else1) → placeRefusal (c .before .before .before .args .sheet .now) (c .before .before .before .args .place) ≡ 0
 passed c = sym (c .before .judge-place .ensures) ∙ c .if1 .left
 
--- and so it is below 8
-low : (c : tie.Else1) → c .before .before .before .args .place < 8
-low c =
-    let given = c .before .before .before in
-    let good = good-place (given .args .sheet .now) (given .args .place) (passed c) in
-    omega (arith, good .1, good .0 .count .1)
+-- and so its nine bytes lie within the sheet
+inside : (c : tie.After-start) → c .start .result + 9 * c .before .before .before .before .args .place + 9 ≤ length (c .before .before .before .before .args .sheet .now)
+inside c =
+    let given = c .before .before .before .before in
+    let good = good-place (given .args .sheet .now) (given .args .place) (passed (c .before)) in
+    rw (c .start .ensures) (part-end (given .args .sheet .now) _ _ (good .0 .size) (good .1))
 
 judge-place-requires : tie.Need-judge-place-requires
 judge-place-requires c κs = search needs
@@ -35,14 +37,17 @@ returns c =
     let refused = ne-eqb (placeRefusal (given .args .sheet .now) (given .args .place)) 0 (λ e. c .before .if1 .taken (c .before .before .judge-place .ensures ∙ e)) in
     record { block = refl; offset = simp (refused, add-zero); content = simp refused }
 
+start-requires : tie.Need-start-requires
+start-requires c κs = good-place _ _ (passed c) .0 .long
+
 mul-start : tie.Need-mul-start
-mul-start c = omega (arith, low c)
+mul-start c = omega (arith, inside c)
 
 add-start : tie.Need-add-start
-add-start c = omega (arith, low c)
+add-start c = omega (arith, inside c)
 
 add-end : tie.Need-add-end
-add-end c = omega (arith, low c)
+add-end c = omega (arith, inside c)
 
 sub-result : tie.Need-sub-result
 sub-result c = search needs
@@ -51,17 +56,15 @@ part-result-start : tie.Need-part-result-start
 part-result-start c = search needs
 
 part-result-end : tie.Need-part-result-end
-part-result-end c =
-    let given = c .before .before .before in
-    let good = good-place (given .args .sheet .now) (given .args .place) (passed c) in
-    part-end (given .args .sheet .now) _ _ (good .0 .size) (good .1)
+part-result-end c = inside c
 
 returns-2 : tie.Need-returns-2
 unfolding partStart partBytes
 returns-2 c =
-    let given = c .before .before .before .before in
-    let good = passed (c .before) in
-    record { block = refl; offset = simp good (add-comm (3 + 9 * given .args .place) (given .args .sheet .ptr .1)); content = simp good (part-at _ _) }
+    let given = c .before .before .before .before .before in
+    let good = passed (c .before .before) in
+    rw (c .before .start .ensures)
+    (record { block = refl; offset = simp good (add-comm (startOf (given .args .sheet .now) + 9 * given .args .place) (given .args .sheet .ptr .1)); content = simp good (part-at _ _) })
 
 pub record-part-spec : {M : Type 1} → statement M
 record-part-spec =
@@ -70,6 +73,7 @@ record-part-spec =
     judge-place-requires
     slice-aggregate-result
     returns
+    start-requires
     mul-start
     add-start
     add-end

@@ -14,10 +14,10 @@ use Rattle.fidhaqooban.proofs.numbers.table_of.Statement.{statement}
 use Rattle.fidhaqooban.proofs.numbers.table_of.Tie as tie
 
 abbrev Inv-loop : tie.InvT-loop
-Inv-loop count interval numbers records₀ place₀ records place = (place ≤ 8) × (records ≡ filledBelow (givenRecord numbers) place (replicate 8 (givenRecord numbers 0)))
+Inv-loop count interval round share numbers records₀ place₀ records place = (place ≤ 8) × (records ≡ filledBelow (givenRecord numbers) place (replicate 8 (givenRecord numbers 0)))
 
 abbrev μ-loop : tie.MeasureT-loop
-μ-loop count interval numbers records₀ place₀ records place = 8 - place
+μ-loop count interval round share numbers records₀ place₀ records place = 8 - place
 
 record-requires : tie.Need-record-requires Inv-loop μ-loop
 record-requires c κs = search needs
@@ -52,7 +52,7 @@ returns c =
     let given = c .before .before .before .before in
     let each = givenRecord (given .args .numbers .now) in
     let all : c .before .loop .place ≡ 8 = omega arith in
-    ap (λ (records : List Record). record { count = given .args .count; interval = given .args .interval; records = records })
+    ap (λ (records : List Record). record { count = given .args .count; interval = given .args .interval; round = given .args .round; share = given .args .share; records = records })
     (c .before .loop .inv .1 ∙ ap (λ (n : ℕ). filledBelow each n (replicate 8 (each 0))) all)
 
 pub table-of-spec : {M : Type 1} → statement M

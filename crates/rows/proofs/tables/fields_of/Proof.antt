@@ -13,7 +13,7 @@ use Rattle.rows.proofs.tables.fields_of.Statement.{statement}
 use Rattle.rows.proofs.tables.fields_of.Tie as tie
 
 abbrev Inv-loop : tie.InvT-loop
-Inv-loop base fields₀ field₀ fields field = (field ≤ 51) × (fields ≡ filledBelow (λ field. figureOf base 0 field % 65536) field (replicate 51 0))
+Inv-loop base fields₀ field₀ fields field = (field ≤ 51) × (fields ≡ filledBelow (λ field. figureOf base 0 field % 65536) field (replicate 53 1))
 
 abbrev μ-loop : tie.MeasureT-loop
 μ-loop base fields₀ field₀ fields field = 51 - field
@@ -46,7 +46,7 @@ loop-again c =
     let at = turn .before .loop in
     let base = turn .before .before .before .args .base .now in
     let value : ℕ → ℕ = λ field. figureOf base 0 field % 65536 in
-    (search needs, ap₂ (λ (l : List ℕ) (v : ℕ). set l (at .field) v) (at .inv .1) (c .short .ensures ∙ ap (λ (n : ℕ). n % 65536) (c .before .figure .ensures)) ∙ sym (fill-more value (at .field) (replicate 51 0)))
+    (search needs, ap₂ (λ (l : List ℕ) (v : ℕ). set l (at .field) v) (at .inv .1) (c .short .ensures ∙ ap (λ (n : ℕ). n % 65536) (c .before .figure .ensures)) ∙ sym (fill-more value (at .field) (replicate 53 1)))
 
 returns : tie.Need-returns Inv-loop μ-loop
 unfolding fieldsOf
@@ -54,7 +54,7 @@ returns c =
     let at = c .before .loop in
     let base = c .before .before .before .args .base .now in
     let all : at .field ≡ 51 = omega arith in
-    at .inv .1 ∙ ap (λ (n : ℕ). filledBelow (λ field. figureOf base 0 field % 65536) n (replicate 51 0)) all
+    at .inv .1 ∙ ap (λ (n : ℕ). filledBelow (λ field. figureOf base 0 field % 65536) n (replicate 53 1)) all
 
 pub fields-of-spec : {M : Type 1} → statement M
 fields-of-spec =

@@ -7,11 +7,11 @@ use Rattle.rows.proofs.tables.slot.Tie as tie
 
 returns : tie.Need-returns
 unfolding slotOf
-returns c = (simp (lt-ltb _ 51 (c .if1 .taken)), search needs)
+returns c = (simp (lt-ltb _ 53 (c .if1 .taken)), search needs)
 
 returns-2 : tie.Need-returns-2
 unfolding slotOf
-returns-2 c = (simp (le-ltb _ 51 (c .if1 .left)), search needs)
+returns-2 c = (simp (le-ltb _ 53 (c .if1 .left)), search needs)
 
 pub slot-spec : {M : Type 1} → statement M
 slot-spec = tie.close (tie.spec returns returns-2)

@@ -13,6 +13,12 @@ cast-t7 c = search needs
 array-read-t10 : tie.Need-array-read-t10
 array-read-t10 c = search needs
 
+array-read-t13 : tie.Need-array-read-t13
+array-read-t13 c = search needs
+
+array-read-t16 : tie.Need-array-read-t16
+array-read-t16 c = search needs
+
 record-requires : tie.Need-record-requires
 record-requires c κs = search needs
 
@@ -56,6 +62,8 @@ table-spec =
     array-read-t5
     cast-t7
     array-read-t10
+    array-read-t13
+    array-read-t16
     record-requires
     record-requires-2
     record-requires-3

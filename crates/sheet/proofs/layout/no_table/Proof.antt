@@ -10,7 +10,7 @@ no-record-requires : tie.Need-no-record-requires
 no-record-requires c κs = search needs
 
 returns : tie.Need-returns
-returns c = ap (λ (r : Record). record { count = 0; interval = 0; records = replicate 8 r }) (c .no-record .ensures)
+returns c = ap (λ (r : Record). record { count = 0; interval = 0; round = 0; share = 0; records = replicate 8 r }) (c .no-record .ensures)
 
 pub no-table-spec : {M : Type 1} → statement M
 no-table-spec = tie.close (tie.spec no-record-requires returns)

@@ -6,7 +6,7 @@ use mathlib.Core.List.{List}
 use lib.ListN.{length}
 use lib.Seq.{sets}
 use Rattle.sheet.specs.Places.{joinedBelow}
-use Rattle.sheet.specs.Layout.{sizeOf, recordAt, recordBytes}
+use Rattle.sheet.specs.Layout.{recordAt, recordBytes}
 use Rattle.sheet.proofs.Turns.{joined-more}
 use Rattle.sheet.proofs.Cases.{good-at}
 use Rattle.sheet.proofs.Stores.{sets-after, length-records}
@@ -15,10 +15,10 @@ use Rattle.sheet.proofs.layout.put_records.Statement.{statement}
 use Rattle.sheet.proofs.layout.put_records.Tie as tie
 
 abbrev Inv-loop : tie.InvT-loop
-Inv-loop out₀ count records place₀ out place = (place ≤ count) × (length out ≡ length out₀) × (out ≡ sets out₀ 3 (joinedBelow (λ place. recordBytes (recordAt records place)) place))
+Inv-loop out₀ start count records place₀ out place = (place ≤ count) × (length out ≡ length out₀) × (out ≡ sets out₀ start (joinedBelow (λ place. recordBytes (recordAt records place)) place))
 
 abbrev μ-loop : tie.MeasureT-loop
-μ-loop out₀ count records place₀ out place = count - place
+μ-loop out₀ start count records place₀ out place = count - place
 
 loop-holds : tie.Need-loop-holds Inv-loop μ-loop
 unfolding joinedBelow
@@ -37,11 +37,11 @@ array-copy-out-put-record : tie.Need-array-copy-out-put-record Inv-loop μ-loop
 array-copy-out-put-record c = search needs
 
 put-record-requires : tie.Need-put-record-requires Inv-loop μ-loop
-unfolding sizeOf recordAt
+unfolding recordAt
 put-record-requires c κs =
     let turn = c .before .before in
     let given = turn .before .before .before in
-    let good = good-at (given .args .count) (recordAt (given .args .t2)) (given .pre .2) (turn .before .loop .place) (turn .loop-test .taken) in
+    let good = good-at (given .args .count) (recordAt (given .args .t3)) (given .pre .2) (turn .before .loop .place) (turn .loop-test .taken) in
     (omega arith, omega arith, omega arith)
 
 add-place : tie.Need-add-place Inv-loop μ-loop
@@ -56,14 +56,14 @@ loop-again c =
     let turn = c .before .before .before .before .before in
     let given = turn .before .before .before in
     let at = turn .before .loop in
-    let bytes : ℕ → List ℕ = λ place. recordBytes (recordAt (given .args .t2) place) in
-    let so-far : length (joinedBelow bytes (at .place)) ≡ 9 * at .place = length-records (recordAt (given .args .t2)) (at .place) in (
+    let bytes : ℕ → List ℕ = λ place. recordBytes (recordAt (given .args .t3) place) in
+    let so-far : length (joinedBelow bytes (at .place)) ≡ 9 * at .place = length-records (recordAt (given .args .t3)) (at .place) in (
       search needs,
       c .before .before .put-record .kept .0 ∙ at .inv .1,
       c .before .before .put-record .ensures
-          ∙ ap (λ (l : List ℕ). sets l (3 + 9 * at .place) (bytes (at .place))) (at .inv .2)
-          ∙ sets-after (given .args .out .now) (joinedBelow bytes (at .place)) (bytes (at .place)) 3 (3 + 9 * at .place) (ap (λ (n : ℕ). 3 + n) (sym so-far))
-          ∙ ap (sets (given .args .out .now) 3) (sym (joined-more bytes (at .place))),
+          ∙ ap (λ (l : List ℕ). sets l (given .args .start + 9 * at .place) (bytes (at .place))) (at .inv .2)
+          ∙ sets-after (given .args .out .now) (joinedBelow bytes (at .place)) (bytes (at .place)) (given .args .start) (given .args .start + 9 * at .place) (ap (λ (n : ℕ). given .args .start + n) (sym so-far))
+          ∙ ap (sets (given .args .out .now) (given .args .start)) (sym (joined-more bytes (at .place))),
     )
 
 same-length : tie.Need-same-length Inv-loop μ-loop
@@ -73,7 +73,7 @@ returns : tie.Need-returns Inv-loop μ-loop
 returns c =
     let given = c .before .before .before in
     let all : c .before .loop .place ≡ given .args .count = omega arith in
-    c .before .loop .inv .2 ∙ ap (λ (n : ℕ). sets (given .args .out .now) 3 (joinedBelow (λ place. recordBytes (recordAt (given .args .t2) place)) n)) all
+    c .before .loop .inv .2 ∙ ap (λ (n : ℕ). sets (given .args .out .now) (given .args .start) (joinedBelow (λ place. recordBytes (recordAt (given .args .t3) place)) n)) all
 
 pub put-records-spec : {M : Type 1} → statement M
 put-records-spec =

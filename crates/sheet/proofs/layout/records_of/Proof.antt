@@ -1,12 +1,12 @@
 -- `sheet::layout::records_of` meets its contract: before each turn the records below the place are filled. Assumes nothing.
-use Prim.Native.Nat.{ℕ, _≤_, _-_}
+use Prim.Native.Nat.{ℕ, _+_, _*_, _-_, _≤_}
 use mathlib.Core.Path.{_≡_, sym, ap, ap₂, _∙_}
 use native.Mathlib.Omega.{arith}
 use mathlib.Core.List.{List}
-use lib.ListN.{length, set, replicate}
+use lib.ListN.{length, set, take, drop, replicate}
 use Rattle.sheet.specs.declared.Record.{Record}
 use Rattle.sheet.specs.Places.{filledBelow}
-use Rattle.sheet.specs.Layout.{recordOf, sheetRecord, noRecord, room}
+use Rattle.sheet.specs.Layout.{sizeOf, recordOf, sheetRecord, noRecord, room}
 use Rattle.sheet.proofs.Turns.{fill-more}
 use Rattle.sheet.proofs.Parts.{part-at, part-end, part-nine}
 use borrow.Author.Needs.{needs}
@@ -14,26 +14,37 @@ use Rattle.sheet.proofs.layout.records_of.Statement.{statement}
 use Rattle.sheet.proofs.layout.records_of.Tie as tie
 
 abbrev Inv-loop : tie.InvT-loop
-Inv-loop sheet count records₀ place₀ records place = (place ≤ count) × (records ≡ filledBelow (sheetRecord sheet) place (replicate 8 noRecord))
+Inv-loop sheet count records₀ first place₀ records place = (place ≤ count) × (records ≡ filledBelow (sheetRecord sheet) place (replicate 8 noRecord))
 
 abbrev μ-loop : tie.MeasureT-loop
-μ-loop sheet count records₀ place₀ records place = count - place
+μ-loop sheet count records₀ first place₀ records place = count - place
 
 no-record-requires : tie.Need-no-record-requires Inv-loop μ-loop
 no-record-requires c κs = search needs
 
+start-requires : tie.Need-start-requires Inv-loop μ-loop
+unfolding sizeOf
+start-requires c κs = omega arith
+
+-- a place's nine bytes lie within the sheet
+inside : (c : tie.In-loop Inv-loop μ-loop) → c .before .before .start .result + 9 * c .before .loop .place + 9 ≤ length (c .before .before .before .before .before .args .sheet .now)
+inside c =
+    let begun = c .before .before in
+    let given = begun .before .before .before in
+    rw (begun .start .ensures) (part-end (given .args .sheet .now) _ _ (given .pre .1) (c .loop-test .taken))
+
 loop-holds : tie.Need-loop-holds Inv-loop μ-loop
 unfolding filledBelow
-loop-holds c = (search needs, ap (replicate 8) (c .no-record .ensures))
+loop-holds c = (search needs, ap (replicate 8) (c .before .no-record .ensures))
 
-mul-start : tie.Need-mul-start Inv-loop μ-loop
-mul-start c = search needs
+mul-begin : tie.Need-mul-begin Inv-loop μ-loop
+mul-begin c = search needs
 
-add-start : tie.Need-add-start Inv-loop μ-loop
-add-start c = search needs
+add-begin : tie.Need-add-begin Inv-loop μ-loop
+add-begin c = omega (arith, inside c)
 
 add-end : tie.Need-add-end Inv-loop μ-loop
-add-end c = search needs
+add-end c = omega (arith, inside c)
 
 sub-record-from : tie.Need-sub-record-from Inv-loop μ-loop
 sub-record-from c = search needs
@@ -42,14 +53,14 @@ part-record-from-start : tie.Need-part-record-from-start Inv-loop μ-loop
 part-record-from-start c = search needs
 
 part-record-from-end : tie.Need-part-record-from-end Inv-loop μ-loop
-part-record-from-end c =
-    let start = c .before .before .before .before in
-    part-end (start .args .sheet .now) _ _ (start .pre .1) (c .loop-test .taken)
+part-record-from-end c = inside c
 
 record-from-requires : tie.Need-record-from-requires Inv-loop μ-loop
 record-from-requires c κs =
     let turn = c .before in
-    ap length (part-at _ _) ∙ part-nine _ _ _ (turn .before .before .before .before .pre .1) (turn .loop-test .taken)
+    let begun = turn .before .before in
+    let given = begun .before .before .before in
+    rw (begun .start .ensures) (ap length (part-at _ _) ∙ part-nine (given .args .sheet .now) _ _ (given .pre .1) (turn .loop-test .taken))
 
 mul-records : tie.Need-mul-records Inv-loop μ-loop
 mul-records c = search needs
@@ -67,16 +78,20 @@ loop-again : tie.Need-loop-again Inv-loop μ-loop
 unfolding sheetRecord
 loop-again c =
     let turn = c .before .before in
-    let sheet = turn .before .before .before .before .args .sheet .now in
-    let at = turn .before .loop in (
+    let begun = turn .before .before in
+    let sheet = begun .before .before .before .args .sheet .now in
+    let at = turn .before .loop in
+    let bytes : ℕ → List ℕ = λ first. take (first + 9 * at .place + 9 - (first + 9 * at .place)) (drop (first + 9 * at .place) sheet) in (
       search needs,
-      ap₂ (λ (l : List Record) (r : Record). set l (at .place) r) (at .inv .1) (c .record-from .ensures ∙ ap recordOf (part-at sheet (at .place))) ∙ sym (fill-more (sheetRecord sheet) (at .place) (replicate 8 noRecord)),
+      ap₂ (λ (l : List Record) (r : Record). set l (at .place) r) (at .inv .1)
+          (c .record-from .ensures ∙ ap (λ (first : ℕ). recordOf (bytes first)) (begun .start .ensures) ∙ ap recordOf (part-at sheet (at .place)))
+          ∙ sym (fill-more (sheetRecord sheet) (at .place) (replicate 8 noRecord)),
     )
 
 returns : tie.Need-returns Inv-loop μ-loop
 unfolding room
 returns c =
-    let given = c .before .before .before .before in
+    let given = c .before .before .before .before .before in
     let all : c .before .loop .place ≡ given .args .count = omega arith in
     c .before .loop .inv .1 ∙ ap (λ (n : ℕ). filledBelow (sheetRecord (given .args .sheet .now)) n (replicate 8 noRecord)) all
 
@@ -87,9 +102,10 @@ records-of-spec =
     Inv-loop
     μ-loop
     no-record-requires
+    start-requires
     loop-holds
-    mul-start
-    add-start
+    mul-begin
+    add-begin
     add-end
     sub-record-from
     part-record-from-start

@@ -4,6 +4,9 @@ use borrow.Author.Needs.{needs}
 use Rattle.sheet.proofs.layout.size.Statement.{statement}
 use Rattle.sheet.proofs.layout.size.Tie as tie
 
+header-size-requires : tie.Need-header-size-requires
+header-size-requires c κs = search needs
+
 mul-result : tie.Need-mul-result
 mul-result c = search needs
 
@@ -15,4 +18,4 @@ unfolding sizeOf
 returns c = search needs
 
 pub size-spec : {M : Type 1} → statement M
-size-spec = tie.close (tie.spec mul-result add-result returns)
+size-spec = tie.close (tie.spec header-size-requires mul-result add-result returns)
