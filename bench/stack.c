@@ -17,6 +17,7 @@ static uint8_t stack[STACK];
 static uint8_t sheet[FQ_SHEET_BYTES];
 static uint8_t output[FQ_LIST_BYTES];
 static const uint8_t log_bytes[] = {255, 128, 0, 0, 0, 0};
+static const uint8_t record_bytes[] = {0, 0, 0, 255, 128, 8};
 static uint64_t counts[FQ_COUNTS];
 static int32_t figure;
 static size_t length;
@@ -37,6 +38,7 @@ static void next(void) { fq_next(sheet, length, 0); }
 static void list(void) { fq_list(sheet, length, output, sizeof output); }
 static void short_list(void) { fq_list(sheet, length, output, 40); }
 static void replay(void) { fq_replay(sheet, length, log_bytes, sizeof log_bytes, counts, FQ_COUNTS); }
+static void check(void) { fq_check(sheet, length, record_bytes, sizeof record_bytes); }
 
 /* How many bytes of stack a call takes, the switch to it included. */
 static size_t depth(void (*call)(void))
@@ -63,7 +65,7 @@ int main(void)
     } calls[] = {
         {"fq_judge", judge}, {"fq_write", write}, {"fq_write_shared", write_shared}, {"fq_rewrite", rewrite}, {"fq_record", record},
         {"fq_response", response}, {"fq_slack", slack}, {"fq_verdict", verdict},
-        {"fq_least_interval", least_interval}, {"fq_next", next}, {"fq_list", list}, {"fq_list, no room", short_list}, {"fq_replay", replay},
+        {"fq_least_interval", least_interval}, {"fq_next", next}, {"fq_list", list}, {"fq_list, no room", short_list}, {"fq_replay", replay}, {"fq_check", check},
     };
     const uint16_t intervals[] = {everyday.interval, 1};
     size_t empty = depth(nothing);

@@ -34,7 +34,7 @@ extern "C" {
 #endif
 
 /* The version of this header and library; `./desk --version` prints the same. */
-#define FQ_VERSION "1.6.0"
+#define FQ_VERSION "1.7.0"
 
 /*
  * What a refused call gives, in the order in which the rules are tried: the number of the first rule broken,
@@ -54,8 +54,8 @@ enum fq_refusal {
     FQ_BAD_FAULT_PRIORITY = 10, /* a fault priority is outside 1 to the record's own priority */
     FQ_BAD_PLACE = 12,          /* the record place asked for is not below the count */
     FQ_BAD_CHOICE = 13,         /* the choice to go on after is neither 0 nor allowed */
-    FQ_SHARED_PROCESSOR = 19,   /* a log is replayed for the whole processor only */
-    FQ_ODD_LOG = 14,            /* a log has an odd number of bytes */
+    FQ_SHARED_PROCESSOR = 19,   /* a log is replayed, and a record checked, for the whole processor only */
+    FQ_ODD_LOG = 14,            /* a log has an odd number of bytes, or a record one that is no multiple of three */
     FQ_STRANGE_BIT = 15,        /* a tick has a release bit above the count, or one of the seven other bits set */
     FQ_EARLY_RELEASE = 16,      /* a release sooner than its period after that task's last */
     FQ_EARLY_FAULT = 17,        /* a fault sooner than the fault interval after the last */
@@ -168,6 +168,15 @@ int64_t fq_list(const uint8_t *sheet, size_t len, uint8_t *out, size_t out_len);
  */
 int64_t fq_replay(const uint8_t *sheet, size_t len, const uint8_t *log, size_t log_len, uint64_t *counts,
                   size_t counts_len);
+
+/*
+ * Checks a supplier's own run record: three bytes a tick, the two of a log and then what ran, the priority of the task,
+ * 0 for idle, with the top bit set for a backup. The record is judged whole, 14 for a length that is not a multiple of
+ * three and then rules 15 to 17, before anything is compared.
+ * Answer: how many ticks from the start show what the rules of fq_replay say, so record_len / 3 exactly if the record is
+ * accepted and otherwise the first tick, from 0, that differs; or minus the refusal (1 to 10, 18, 19, 14 to 17).
+ */
+int64_t fq_check(const uint8_t *sheet, size_t len, const uint8_t *record, size_t record_len);
 
 #ifdef __cplusplus
 }

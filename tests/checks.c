@@ -60,7 +60,7 @@ static void settle(struct comparison *comparison, const struct call *call, const
         print_bytes("sheet", comparison->input_before + comparison->sheet_start, comparison->sheet_length);
     }
     if (call->log != NULL) {
-        print_bytes(", log", call->log->bytes, call->log->length);
+        print_bytes(", log or record", call->log->bytes, call->log->length);
     }
     printf(", seed %" PRIu64 " count %" PRIu64 ", %s round %" PRIu64 "\n", comparison->seed,
            comparison->count, KINDS[comparison->kind], comparison->round);
@@ -306,6 +306,18 @@ int64_t check_replay(struct comparison *comparison, const struct log *log, size_
     if (call.plain < 0) {
         settle(comparison, &call, "counts of a refused call", memcmp(library, before, sizeof before) == 0);
     }
+    return call.plain;
+}
+
+/* Compares the check of a record; the library gets a copy of it, which must not change. */
+int64_t check_supplied(struct comparison *comparison, const struct log *record)
+{
+    struct log given = *record;
+    struct call call = {.function = "fq_check", .log = record};
+    call.library = fq_check(laid(comparison), comparison->sheet_length, given.bytes, given.length);
+    call.plain = plain_check(laid(comparison), comparison->sheet_length, record->bytes, record->length);
+    settle_call(comparison, &call);
+    settle(comparison, &call, "record", memcmp(&given, record, sizeof given) == 0);
     return call.plain;
 }
 

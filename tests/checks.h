@@ -70,6 +70,7 @@ int64_t check_least_interval(struct comparison *comparison);
 int64_t check_next(struct comparison *comparison, uint32_t after);
 int64_t check_list(struct comparison *comparison, size_t out_len);
 int64_t check_replay(struct comparison *comparison, const struct log *log, size_t counts_len);
+int64_t check_supplied(struct comparison *comparison, const struct log *record);
 
 /* Checks that the library's step after a choice is the expected one; the plain desk is not asked again. */
 void check_step(struct comparison *comparison, uint32_t after, int64_t expected);

@@ -17,9 +17,9 @@ enum {
     DEFAULT_COUNT = 80000,
     /* One analysis sheet is run for so many codec sheets. */
     CODEC_SHEETS_FOR_ANALYSIS_SHEET = 20,
-    /* One log is replayed for so many. */
+    /* One log is replayed, and one record checked, for so many. */
     CODEC_SHEETS_FOR_LOG = 4,
-    /* The first refusal of a log, and the one after the others that only a sheet can have. */
+    /* The first refusal of a log or a record, and the one after the others that only a sheet can have. */
     FIRST_OF_LOGS = 14,
     BAD_SHARE = 18,
     NO_DIFFERENCE = 0,
@@ -33,8 +33,8 @@ static void print_usage(FILE *stream)
     fprintf(stream,
             "usage: compare [SEED [COUNT]]\n"
             "Runs COUNT random sheets through reading and writing, COUNT / %d through the analysis and\n"
-            "COUNT / %d logs through the replay, each through the library and through a plain\n"
-            "implementation, and compares the answers.\n"
+            "COUNT / %d logs and as many supplier's records through the replay, each through the library\n"
+            "and through a plain implementation, and compares the answers.\n"
             "SEED and COUNT are whole numbers; the defaults are %d and %d.\n"
             "Status: 0 no difference, 1 a difference or nothing run, 2 bad arguments.\n",
             CODEC_SHEETS_FOR_ANALYSIS_SHEET, CODEC_SHEETS_FOR_LOG, DEFAULT_SEED, DEFAULT_COUNT);
@@ -67,6 +67,8 @@ static void print_tally(const struct comparison *comparison, const struct tally 
 {
     print_answers("codec sheets by answer of fq_judge", tally->judged, JUDGEMENTS);
     print_answers("logs by answer of fq_replay", tally->replayed, REPLAY_JUDGEMENTS);
+    print_answers("records by refusal of fq_check", tally->checked, REPLAY_JUDGEMENTS);
+    printf("records accepted: %" PRIu64 ", with a tick that differs: %" PRIu64 "\n", tally->accepted, tally->differing);
     printf("slacks with a figure: %" PRIu64 ", least intervals of none: %" PRIu64 ", listed choices: %" PRIu64 "\n",
            tally->figures, tally->least_intervals_of_none, tally->listed_choices);
     printf("%" PRIu64 " codec sheets, %" PRIu64 " analysis sheets (%" PRIu64 " pass, %" PRIu64 " do not), ",
@@ -76,17 +78,17 @@ static void print_tally(const struct comparison *comparison, const struct tally 
     printf("%" PRIu64 " checks, %" PRIu64 " differences\n", comparison->checks, comparison->differences);
 }
 
-/* Whether at least one sheet of each kind, and a log of each judgement, was run. */
+/* Whether at least one sheet of each kind, and a log and a record of each judgement, was run. */
 static bool every_kind_run(const struct tally *tally)
 {
     for (unsigned refusal = FIRST_OF_LOGS; refusal < REPLAY_JUDGEMENTS; refusal++) {
-        if (refusal != BAD_SHARE && tally->replayed[refusal] == 0) {
+        if (refusal != BAD_SHARE && (tally->replayed[refusal] == 0 || tally->checked[refusal] == 0)) {
             return false;
         }
     }
     return tally->judged[0] > 0 && tally->judged[0] < tally->codec_sheets && tally->judged[BAD_SHARE] > 0 && tally->passing > 0 &&
            tally->late > 0 && tally->least_intervals > 0 && tally->lists > tally->lists_of_eight &&
-           tally->lists_of_eight > 0 && tally->replayed[0] > 0;
+           tally->lists_of_eight > 0 && tally->replayed[0] > 0 && tally->accepted > 0 && tally->differing > 0;
 }
 
 /* Runs all rounds, prints what was found, and gives the status of the program. */

@@ -1,9 +1,11 @@
-/* Random logs of a box, good and damaged. */
+/* Random logs of a box and a supplier's records, good and damaged. */
 #include "logs.h"
+
+#include "plain.h"
 
 #include <stdbool.h>
 
-enum { FAULT_BIT = 128 };
+enum { FAULT_BIT = 128, BACKUP_BIT = 128, BYTES = 256 };
 
 /* True so many times in a hundred. */
 static bool in_hundred(struct generator *generator, unsigned percent)
@@ -72,4 +74,53 @@ struct log random_log(struct generator *generator, const struct draft *draft, en
         break;
     }
     return log;
+}
+
+/* The ticks of a log as a record, each showing what ran. */
+static struct log shown_record(const struct draft *draft, const struct log *log)
+{
+    struct sheet sheet = packed(draft);
+    struct log record = {.length = log->length / 2 * 3};
+    for (size_t tick = 0; tick < log->length / 2; tick++) {
+        record.bytes[3 * tick] = log->bytes[2 * tick];
+        record.bytes[3 * tick + 1] = log->bytes[2 * tick + 1];
+    }
+    plain_show(sheet.bytes, sheet.length, record.bytes, record.length);
+    return record;
+}
+
+/* Damages one random tick of a record, its last, or its length; an empty record stays as it is. */
+struct log random_record(struct generator *generator, const struct draft *draft, enum record_damage damage)
+{
+    struct log log = good_log(generator, draft);
+    struct log record = shown_record(draft, &log);
+    if (record.length == 0) {
+        return record;
+    }
+    uint8_t *tick = record.bytes + 3 * random_below(generator, record.length / 3);
+    switch (damage) {
+    case RAN_DRAWN:
+        tick[2] = (uint8_t)random_below(generator, BYTES);
+        break;
+    case BACKUP_BIT_FLIPPED:
+        tick[2] ^= BACKUP_BIT;
+        break;
+    case LAST_RAN_CHANGED:
+        record.bytes[record.length - 1] ^= (uint8_t)(1 + random_below(generator, BYTES - 1));
+        break;
+    case RECORD_CUT:
+        record.length -= 1 + random_below(generator, 2);
+        break;
+    case REFUSED_BITS:
+        record.bytes[2] ^= (uint8_t)random_below(generator, 2);
+        if (in_hundred(generator, 50)) {
+            tick[1] |= FAULT_BIT;
+        } else {
+            tick[random_below(generator, 2)] ^= (uint8_t)(1u << random_below(generator, 8));
+        }
+        break;
+    default:
+        break;
+    }
+    return record;
 }

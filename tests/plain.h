@@ -24,5 +24,9 @@ int64_t plain_next(const uint8_t *sheet, size_t len, uint32_t after);
 int64_t plain_list(const uint8_t *sheet, size_t len, uint8_t *out, size_t out_len);
 int64_t plain_replay(const uint8_t *sheet, size_t len, const uint8_t *log, size_t log_len, uint64_t *counts,
                      size_t counts_len);
+int64_t plain_check(const uint8_t *sheet, size_t len, const uint8_t *record, size_t record_len);
+
+/* Makes each tick of a supplier's record show what ran; a record that is refused stays as it is. */
+void plain_show(const uint8_t *sheet, size_t len, uint8_t *record, size_t record_len);
 
 #endif

@@ -1,6 +1,6 @@
 /*
- * The plain replay: request 1's paragraph sentence by sentence. It keeps the tick at which each thing happened, and looks
- * for the job that runs by comparing all of them.
+ * The plain replay: request 1's paragraph sentence by sentence, and request 7's. It keeps the tick at which each thing
+ * happened, and looks for the job that runs by comparing all of them.
  */
 #include "plain.h"
 
@@ -9,7 +9,16 @@
 #include <stdbool.h>
 #include <string.h>
 
-enum { FIRST_ATTEMPTS, BACKUPS, IDLING, RELEASED, FINISHED, MISSED, UNFINISHED, COUNTS, FAULT_BIT = 128 };
+enum { FIRST_ATTEMPTS, BACKUPS, IDLING, RELEASED, FINISHED, MISSED, UNFINISHED, COUNTS };
+
+enum { FAULT_BIT = 128, BACKUP_BIT = 128, LOG_TICK_BYTES = 2, RECORD_TICK_BYTES = 3 };
+
+/* The ticks of a log, of two bytes each, or of a supplier's record, of three; the third says what ran. */
+struct ticks {
+    const uint8_t *bytes;
+    size_t length;
+    size_t bytes_of_tick;
+};
 
 /* A task of the sheet with its job, if it has one that is neither finished nor dropped. */
 struct running {
@@ -30,16 +39,22 @@ static struct record with_priority(const struct table *table, uint64_t priority)
     return table->records[place];
 }
 
-/* Whether a tick of the log releases the task of a priority. */
-static bool releases(const uint8_t *log, size_t tick, uint64_t priority)
+/* The bytes of a tick. */
+static const uint8_t *bytes_at(const struct ticks *ticks, size_t tick)
 {
-    return (log[2 * tick] >> (priority - 1)) & 1;
+    return ticks->bytes + ticks->bytes_of_tick * tick;
 }
 
-/* Whether a tick of the log is marked with a fault. */
-static bool is_marked(const uint8_t *log, size_t tick)
+/* Whether a tick releases the task of a priority. */
+static bool releases(const struct ticks *ticks, size_t tick, uint64_t priority)
 {
-    return log[2 * tick + 1] >= FAULT_BIT;
+    return (bytes_at(ticks, tick)[0] >> (priority - 1)) & 1;
+}
+
+/* Whether a tick is marked with a fault. */
+static bool is_marked(const struct ticks *ticks, size_t tick)
+{
+    return bytes_at(ticks, tick)[1] >= FAULT_BIT;
 }
 
 /* Whether a release or a fault comes sooner than so many ticks after the last one, which may not be there. */
@@ -48,22 +63,22 @@ static bool is_early(bool has_last, size_t last, size_t tick, uint64_t distance)
     return has_last && tick - last < distance;
 }
 
-/* The refusal of a log by rules 14 to 17. */
-static enum refusal judge_log(const struct table *table, const uint8_t *log, size_t log_len)
+/* The refusal of a log or a record by rules 14 to 17. */
+static enum refusal judge_ticks(const struct table *table, const struct ticks *ticks)
 {
     bool was_released[MOST_TASKS + 1] = {false}, was_marked = false;
     size_t released_at[MOST_TASKS + 1] = {0}, marked_at = 0;
 
-    if (log_len % 2 != 0) {
-        return ODD_LOG;
+    if (ticks->length % ticks->bytes_of_tick != 0) {
+        return CUT_TICK;
     }
-    for (size_t tick = 0; tick < log_len / 2; tick++) {
-        if (log[2 * tick] >> table->count != 0 || log[2 * tick + 1] % FAULT_BIT != 0) {
+    for (size_t tick = 0; tick < ticks->length / ticks->bytes_of_tick; tick++) {
+        if (bytes_at(ticks, tick)[0] >> table->count != 0 || bytes_at(ticks, tick)[1] % FAULT_BIT != 0) {
             return STRANGE_BIT;
         }
         for (uint64_t priority = 1; priority <= table->count; priority++) {
             uint64_t period = with_priority(table, priority).period;
-            if (!releases(log, tick, priority)) {
+            if (!releases(ticks, tick, priority)) {
                 continue;
             }
             if (is_early(was_released[priority], released_at[priority], tick, period)) {
@@ -72,7 +87,7 @@ static enum refusal judge_log(const struct table *table, const uint8_t *log, siz
             was_released[priority] = true;
             released_at[priority] = tick;
         }
-        if (is_marked(log, tick)) {
+        if (is_marked(ticks, tick)) {
             if (is_early(was_marked, marked_at, tick, table->interval)) {
                 return EARLY_FAULT;
             }
@@ -113,6 +128,15 @@ static struct running *runner_of(struct running *tasks, size_t count)
     return first;
 }
 
+/* What a tick shows of the job that runs: its task's priority, with the top bit set for a backup, or 0 for none. */
+static uint8_t shown_of(const struct running *one)
+{
+    if (one == NULL) {
+        return 0;
+    }
+    return (uint8_t)(one->task.priority + (one->is_backup ? BACKUP_BIT : 0));
+}
+
 /* The job that runs does one tick of its work, which a fault throws away. */
 static void run_one(struct running *one, bool is_struck, uint64_t *counts)
 {
@@ -128,21 +152,22 @@ static void run_one(struct running *one, bool is_struck, uint64_t *counts)
     }
 }
 
-/* One tick: releases, the job that runs, the fault, the deadlines. */
-static void run_tick(struct running *tasks, size_t count, const uint8_t *log, size_t tick, uint64_t *counts)
+/* One tick: releases, the job that runs, the fault, the deadlines. Gives what the tick shows. */
+static uint8_t run_tick(struct running *tasks, size_t count, const struct ticks *ticks, size_t tick, uint64_t *counts)
 {
     for (size_t index = 0; index < count; index++) {
         struct running *one = &tasks[index];
-        if (releases(log, tick, one->task.priority)) {
+        if (releases(ticks, tick, one->task.priority)) {
             *one = (struct running){one->task, true, false, one->task.cost, tick};
             counts[RELEASED]++;
         }
     }
     struct running *first = runner_of(tasks, count);
+    uint8_t shown = shown_of(first);
     if (first == NULL) {
         counts[IDLING]++;
     } else {
-        run_one(first, is_marked(log, tick), counts);
+        run_one(first, is_marked(ticks, tick), counts);
     }
     for (struct running *one = tasks; one < tasks + count; one++) {
         if (one->has_job && tick - one->released_at + 1 == one->task.deadline) {
@@ -150,16 +175,23 @@ static void run_tick(struct running *tasks, size_t count, const uint8_t *log, si
             counts[MISSED]++;
         }
     }
+    return shown;
 }
 
-/* The seven counts of a log that is good. */
-static void count_log(const struct table *table, const uint8_t *log, size_t log_len, uint64_t *counts)
+/* The tasks of a table, none with a job. */
+static void take_tasks(const struct table *table, struct running *tasks)
 {
-    struct running tasks[MOST_TASKS];
     for (size_t place = 0; place < table->count; place++) {
         tasks[place] = (struct running){.task = table->records[place]};
     }
-    for (size_t tick = 0; tick < log_len / 2; tick++) {
+}
+
+/* The seven counts of a log that is good. */
+static void count_log(const struct table *table, const struct ticks *log, uint64_t *counts)
+{
+    struct running tasks[MOST_TASKS];
+    take_tasks(table, tasks);
+    for (size_t tick = 0; tick < log->length / LOG_TICK_BYTES; tick++) {
         run_tick(tasks, table->count, log, tick, counts);
     }
     for (size_t place = 0; place < table->count; place++) {
@@ -167,24 +199,68 @@ static void count_log(const struct table *table, const uint8_t *log, size_t log_
     }
 }
 
+/* Minus the refusal of a sheet and a log or record: the sheet's own, then 19, then 14 to 17; or 0 with the table. */
+static int64_t refused_ticks(const uint8_t *sheet, size_t len, const struct ticks *ticks, struct table *table)
+{
+    int64_t refusal = refused(sheet, len, table);
+    if (refusal == 0 && !is_whole(table)) {
+        refusal = -SHARED_PROCESSOR;
+    }
+    if (refusal == 0) {
+        refusal = -(int64_t)judge_ticks(table, ticks);
+    }
+    return refusal;
+}
+
 /* Replays a log: its counts, or minus the refusal. */
 int64_t plain_replay(const uint8_t *sheet, size_t len, const uint8_t *log, size_t log_len, uint64_t *counts,
                      size_t counts_len)
 {
     struct table table;
-    int64_t refusal = refused(sheet, len, &table);
-    if (refusal == 0 && !is_whole(&table)) {
-        refusal = -SHARED_PROCESSOR;
-    }
-    if (refusal == 0) {
-        refusal = -(int64_t)judge_log(&table, log, log_len);
-    }
+    struct ticks ticks = {log, log_len, LOG_TICK_BYTES};
+    int64_t refusal = refused_ticks(sheet, len, &ticks, &table);
     if (refusal == 0 && counts_len < COUNTS) {
         refusal = -OUTPUT_TOO_SHORT;
     }
     if (refusal == 0) {
         memset(counts, 0, COUNTS * sizeof counts[0]);
-        count_log(&table, log, log_len, counts);
+        count_log(&table, &ticks, counts);
     }
     return refusal;
+}
+
+/* Checks a record: how many ticks from its start show what ran, or minus the refusal. */
+int64_t plain_check(const uint8_t *sheet, size_t len, const uint8_t *record, size_t record_len)
+{
+    struct table table;
+    struct ticks ticks = {record, record_len, RECORD_TICK_BYTES};
+    struct running tasks[MOST_TASKS];
+    uint64_t counts[COUNTS] = {0};
+    int64_t refusal = refused_ticks(sheet, len, &ticks, &table);
+    if (refusal != 0) {
+        return refusal;
+    }
+    take_tasks(&table, tasks);
+    size_t tick = 0;
+    while (tick < record_len / RECORD_TICK_BYTES &&
+           bytes_at(&ticks, tick)[2] == run_tick(tasks, table.count, &ticks, tick, counts)) {
+        tick++;
+    }
+    return (int64_t)tick;
+}
+
+/* Makes each tick of a record show what ran; a record that is refused stays as it is. */
+void plain_show(const uint8_t *sheet, size_t len, uint8_t *record, size_t record_len)
+{
+    struct table table;
+    struct ticks ticks = {record, record_len, RECORD_TICK_BYTES};
+    struct running tasks[MOST_TASKS];
+    uint64_t counts[COUNTS] = {0};
+    if (refused_ticks(sheet, len, &ticks, &table) != 0) {
+        return;
+    }
+    take_tasks(&table, tasks);
+    for (size_t tick = 0; tick < record_len / RECORD_TICK_BYTES; tick++) {
+        record[RECORD_TICK_BYTES * tick + 2] = run_tick(tasks, table.count, &ticks, tick, counts);
+    }
 }

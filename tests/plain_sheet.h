@@ -25,7 +25,7 @@ enum refusal {
     OUTPUT_TOO_SHORT = 11,
     NO_SUCH_RECORD = 12,
     BAD_CHOICE = 13,
-    ODD_LOG = 14,
+    CUT_TICK = 14,
     STRANGE_BIT = 15,
     EARLY_RELEASE = 16,
     EARLY_FAULT = 17,

@@ -77,6 +77,7 @@ static void check_refused_calls(struct comparison *comparison)
     check_list(comparison, 0);
     check_list(comparison, random_below(generator, SHEET_ROOM));
     check_replay(comparison, &(struct log){.length = random_below(generator, LONGEST_LOG)}, FQ_COUNTS);
+    check_supplied(comparison, &(struct log){.length = random_below(generator, LONGEST_LOG)});
 }
 
 /* Cuts a sheet short at every length below its own. */
@@ -355,6 +356,17 @@ void analysis_round(struct comparison *comparison, struct tally *tally, uint64_t
     }
 }
 
+/* Checks a supplier's record of the log's tasks, right or damaged in the way whose turn it is. */
+static void record_round(struct comparison *comparison, struct tally *tally, const struct draft *draft, uint64_t round)
+{
+    enum record_damage damage = round % 3 == 0 ? NO_RECORD_DAMAGE : (enum record_damage)(round / 3 % RECORD_DAMAGES);
+    struct log record = random_record(&comparison->generator, draft, damage);
+    int64_t answer = check_supplied(comparison, &record);
+    tally->checked[answer < 0 ? -answer : 0]++;
+    tally->accepted += answer == (int64_t)(record.length / 3);
+    tally->differing += answer >= 0 && answer < (int64_t)(record.length / 3);
+}
+
 /* Replays a good log of a small sheet, damaged in the way whose turn it is, into room for more, for just and for too few counts. */
 void replay_round(struct comparison *comparison, struct tally *tally, uint64_t round)
 {
@@ -371,6 +383,7 @@ void replay_round(struct comparison *comparison, struct tally *tally, uint64_t r
     check_replay(comparison, &log, random_below(generator, FQ_COUNTS));
     tally->logs++;
     tally->replayed[-answer]++;
+    record_round(comparison, tally, &draft, round);
 }
 
 /* Judges and rewrites a good sheet's bytes, repeated, at every length from 0 to one past the longest, in both editions and at every count. */

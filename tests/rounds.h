@@ -1,6 +1,6 @@
 /*
  * The kinds of rounds of the comparison: codec rounds, which read, write and damage sheets, analysis rounds,
- * which ask for times, verdicts, intervals and choices, and replay rounds, which replay logs.
+ * which ask for times, verdicts, intervals and choices, and replay rounds, which replay logs and check records.
  */
 #ifndef ROUNDS_H
 #define ROUNDS_H
@@ -24,6 +24,9 @@ struct tally {
     uint64_t listed_choices;
     uint64_t logs;
     uint64_t replayed[REPLAY_JUDGEMENTS];
+    uint64_t accepted;
+    uint64_t differing;
+    uint64_t checked[REPLAY_JUDGEMENTS];
 };
 
 /* Checks the least intervals at the far end, which random sheets do not reach, and sheets of every length. */

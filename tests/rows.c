@@ -72,6 +72,23 @@ static void add_word(struct row *row, const char *word)
     snprintf(row->answer + length, ANSWER_ROOM - length, "%s%s", length == 0 ? "" : " ", word);
 }
 
+/* SHEET RECORD: the refusal, and where there is none accepted, or differs and the first tick that does. */
+static void answer_record(struct row *row)
+{
+    static struct bytes sheet, record;
+    read_bytes(row->word[0], &sheet);
+    read_bytes(row->word[1], &record);
+    int64_t same = fq_check(sheet.at, sheet.length, record.at, record.length);
+    if (same < 0) {
+        add_number(row, -same);
+    } else if (same == (int64_t)(record.length / 3)) {
+        add_word(row, "0 accepted");
+    } else {
+        add_word(row, "0 differs");
+        add_number(row, same);
+    }
+}
+
 /* Adds the response and the slack of each record. */
 static void add_slacks(struct row *row, const struct bytes *sheet)
 {
@@ -138,6 +155,7 @@ static const struct kind {
     {"ask-01-replay.txt", 2, answer_replay},
     {"ask-03-second-job.txt", 1, answer_slack},
     {"ask-06-share.txt", 1, answer_slack},
+    {"ask-07-record.txt", 2, answer_record},
 };
 
 /* The kind of a file. */

@@ -4,6 +4,7 @@ pub mod Fields
 pub mod Answered
 pub mod Slacked
 pub mod Replayed
+pub mod Checked
 pub mod SecondJob
 pub mod Written
 pub mod Chosen

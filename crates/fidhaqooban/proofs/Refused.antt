@@ -30,8 +30,10 @@ use Rattle.choices.specs.Answers.{walkRefusal, listRefusal}
 use Rattle.choices.proofs.Demands.{Zero, start-13}
 use Rattle.choices.proofs.Refused.{list-11, list-refused-leaves}
 use Rattle.fidhaqooban.specs.Numbers.{answerOf, tableFrom, givenTable, timeOf, figuresOf, figureIn, entriesOf, choiceOf, countNumbers}
-use Rattle.replay.specs.Answers.{replayAnswer}
-use Rattle.fidhaqooban.specs.Answers.{writeSharedNumber, writeSharedLeft, writeNumber, writeLeft, rewriteRefusal, rewriteNumber, rewriteLeft, recordNumber, responseNumber, slackRefusal, slackNumber, slackLeft, verdictNumber, intervalNumber, firstNumber, nextRefusal, nextNumber, listingRefusal, listNumber, listLeft, replayedRefusal, replayNumber, replayLeft}
+use Rattle.replay.specs.Machines.{machineOf}
+use Rattle.replay.specs.Shown.{matching}
+use Rattle.replay.specs.Answers.{replayAnswer, checkRefusal}
+use Rattle.fidhaqooban.specs.Answers.{writeSharedNumber, writeSharedLeft, writeNumber, writeLeft, rewriteRefusal, rewriteNumber, rewriteLeft, recordNumber, responseNumber, slackRefusal, slackNumber, slackLeft, verdictNumber, intervalNumber, firstNumber, nextRefusal, nextNumber, listingRefusal, listNumber, listLeft, replayedRefusal, replayNumber, replayLeft, checkNumber}
 
 -- asking for a place is never refused with 11
 place-not-11 : (sheet : List ℕ) (place : ℕ) → placeRefusal sheet place ≡ 11 → ⊥
@@ -195,3 +197,8 @@ module _ (sheet log out : List ℕ) where
   pub replay-left : ((replayedRefusal sheet log out ≡ 0 → ⊥) → replayLeft sheet log out ≡ out) × (replayedRefusal sheet log out ≡ 0 → replayLeft sheet log out ≡ countNumbers (replayAnswer sheet log .counts) ++ drop 7 out)
   unfolding replayLeft
   replay-left = (λ broken. simp (ne-eqb (replayedRefusal sheet log out) 0 broken), λ fine. simp (eq-eqb (replayedRefusal sheet log out) 0 fine))
+
+-- `fq_check`: "how many ticks from the start show what the rules say, or minus the refusal". That it is all of them exactly if the record is accepted is `all-exactly` of Checked.antt
+pub check-said : (sheet supplied : List ℕ) → Said (checkRefusal sheet supplied) (matching (machineOf (tableOf sheet)) supplied) (checkNumber sheet supplied)
+unfolding checkNumber
+check-said sheet supplied = said _ _

@@ -5,7 +5,7 @@ use mathlib.Core.List.{List}
 use lib.IntN.{ℤ}
 use Rattle.sheet.specs.Rules.{sheetRefusal}
 use Rattle.sheet.proofs.Unique.{both}
-use Rattle.fidhaqooban.specs.Answers.{writeSharedNumber, writeSharedLeft, writeNumber, writeLeft, rewriteNumber, rewriteLeft, recordNumber, responseNumber, slackNumber, slackLeft, verdictNumber, intervalNumber, nextNumber, listNumber, listLeft, replayNumber, replayLeft}
+use Rattle.fidhaqooban.specs.Answers.{writeSharedNumber, writeSharedLeft, writeNumber, writeLeft, rewriteNumber, rewriteLeft, recordNumber, responseNumber, slackNumber, slackLeft, verdictNumber, intervalNumber, nextNumber, listNumber, listLeft, replayNumber, replayLeft, checkNumber}
 
 pub fq-judge-unique : (sheet : List ℕ) (a b : ℕ) → a ≡ sheetRefusal sheet → b ≡ sheetRefusal sheet → a ≡ b
 fq-judge-unique sheet a b = both
@@ -50,3 +50,6 @@ fq-list-unique sheet out a b left left′ p q = (both (p .0) (q .0), both (p .1)
 pub fq-replay-unique : (sheet log out : List ℕ) (a b : ℤ) (left left′ : List ℕ)
     → (a ≡ replayNumber sheet log out) × (left ≡ replayLeft sheet log out) → (b ≡ replayNumber sheet log out) × (left′ ≡ replayLeft sheet log out) → (a ≡ b) × (left ≡ left′)
 fq-replay-unique sheet log out a b left left′ p q = (both (p .0) (q .0), both (p .1) (q .1))
+
+pub fq-check-unique : (sheet supplied : List ℕ) (a b : ℤ) → a ≡ checkNumber sheet supplied → b ≡ checkNumber sheet supplied → a ≡ b
+fq-check-unique sheet supplied a b = both

@@ -14,7 +14,9 @@ use Rattle.analysis.specs.Answers.{entryOf, ownTasks, leastInterval}
 use Rattle.choices.specs.Choices.{passingOf}
 use Rattle.choices.specs.Order.{afterOf}
 use Rattle.choices.specs.Answers.{walkRefusal, listRefusal, listLeaves}
-use Rattle.replay.specs.Answers.{replayRefusal, replayAnswer}
+use Rattle.replay.specs.Machines.{machineOf}
+use Rattle.replay.specs.Shown.{matching}
+use Rattle.replay.specs.Answers.{replayRefusal, replayAnswer, checkRefusal}
 use Rattle.fidhaqooban.specs.Numbers.{answerOf, givenTable, timeOf, figuresOf, figureIn, entriesOf, choiceOf, countNumbers}
 
 -- `fq_write_shared`: "bytes written"
@@ -109,3 +111,7 @@ replayNumber sheet log out = answerOf (replayedRefusal sheet log out) 0
 -- what it leaves in the output: the counts and then the numbers as they were, or all as it was
 unfoldable pub replayLeft : List ℕ → List ℕ → List ℕ → List ℕ
 replayLeft sheet log out = cond (eqb (replayedRefusal sheet log out) 0) (countNumbers (replayAnswer sheet log .counts) ++ drop 7 out) out
+
+-- `fq_check`: "how many ticks from the start show what the rules say", or minus the refusal
+unfoldable pub checkNumber : List ℕ → List ℕ → ℤ
+checkNumber sheet supplied = answerOf (checkRefusal sheet supplied) (matching (machineOf (tableOf sheet)) supplied)

@@ -2,10 +2,11 @@
 // Each function is thin: it reads the sheet, asks the crate that answers, and turns the answer into a number.
 ghost use mathlib.Core.Path.{_≡_};
 ghost use Rattle.sheet.specs.Rules.{sheetRefusal};
-ghost use Rattle.fidhaqooban.specs.Answers.{writeSharedNumber, writeSharedLeft, writeNumber, writeLeft, rewriteNumber, rewriteLeft, recordNumber, responseNumber, slackNumber, slackLeft, verdictNumber, intervalNumber, nextNumber, listNumber, listLeft, replayNumber, replayLeft};
+ghost use Rattle.fidhaqooban.specs.Answers.{writeSharedNumber, writeSharedLeft, writeNumber, writeLeft, rewriteNumber, rewriteLeft, recordNumber, responseNumber, slackNumber, slackLeft, verdictNumber, intervalNumber, nextNumber, listNumber, listLeft, replayNumber, replayLeft, checkNumber};
 use analysis::Interval;
 use choices::Arrival;
 use choices::Walk;
+use replay::Checked;
 
 mod numbers;
 
@@ -190,4 +191,16 @@ pub extern "C" fn fq_replay(sheet: &[u8], log: &[u8], counts: &mut [u64]) -> i64
     let counted = replayed.counts;
     numbers::put_counts(counted, counts);
     numbers::answer(0, 0)
+}
+
+// Checks a supplier's record: how many ticks from its start show what the rules say, all of them where it is accepted.
+#[no_mangle]
+pub extern "C" fn fq_check(sheet: &[u8], supplied: &[u8]) -> i64
+    ensures { λ r. ⌜ r ≡ checkNumber (now (sheet .entry)) (now (supplied .entry)) ⌝ }
+{
+    match replay::check(sheet, supplied) {
+        Checked::Refused(refusal) => numbers::answer(refusal, 0),
+        Checked::Accepted => numbers::answer(0, supplied.len() / 3),
+        Checked::Differs(tick) => numbers::answer(0, tick as usize),
+    }
 }

@@ -1,11 +1,13 @@
--- What `start` and `replay` answer, from what their parts answered. Assumes nothing.
-use Prim.Native.Nat.{ℕ}
+-- What `start`, `replay` and `check` answer, from what their parts answered. Assumes nothing.
+use Prim.Native.Nat.{ℕ, _/_, _%_}
 use mathlib.Core.Path.{_≡_, refl, sym, ap, _∙_}
 use mathlib.Core.Bool.{Bool, true, false, cond}
 use mathlib.Core.List.{List}
 use native.Mathlib.Decide.{ℕ-discrete}
+use native.Mathlib.Omega.{arith}
 use borrow.Author.Tests.{eq-eqb, ne-eqb}
 use lib.Dec.{eqb}
+use lib.ListN.{length}
 use Rattle.sheet.specs.declared.Table.{Table}
 use Rattle.sheet.specs.declared.Reading.{Reading}
 use Rattle.sheet.specs.Places.{orElse}
@@ -16,11 +18,15 @@ use Rattle.sheet.proofs.Turns.{next-of, first-of, none-of}
 use Rattle.replay.specs.declared.Counts.{Counts}
 use Rattle.replay.specs.declared.Machine.{Machine}
 use Rattle.replay.specs.declared.Run.{Run}
+use Rattle.replay.specs.declared.Checked.{Checked}
+use Rattle.replay.specs.declared.Checked.the-variants.{Refused}
 use Rattle.replay.specs.Cells.{cellAt, isReady, oneIf, countBelow}
 use Rattle.replay.specs.Counts.{noCounts, unfinishedIn, countsFrom}
 use Rattle.replay.specs.Machines.{machineOf, noMachine, ranOver, countsOf}
 use Rattle.replay.specs.Rules.{sharedRefusal, startRefusal, logRefusal}
-use Rattle.replay.specs.Answers.{startAnswer, goOnAnswer, replayRefusal, replayAnswer}
+use Rattle.replay.specs.Shown.{logIn, logOf, matching, suppliedRefusal}
+use Rattle.replay.specs.Answers.{startAnswer, goOnAnswer, replayRefusal, replayAnswer, compared, suppliedAnswer, checkRefusal, checkAnswer}
+use Rattle.replay.proofs.Matched.{compared-refused}
 
 module _ (sheet : List ℕ) (reading : Reading) (read : reading ≡ readAnswer sheet) where
   read-refusal : reading .refusal ≡ sheetRefusal sheet
@@ -68,7 +74,7 @@ module _ (sheet log : List ℕ) (started : Run) (start : started ≡ startAnswer
       let none : started .machine ≡ noMachine = ap (λ (r : Run). r .machine) start ∙ ap (λ (b : Bool). cond b (machineOf (tableOf sheet)) noMachine) (ne-eqb (startRefusal sheet) 0 bad) in
       simp (first-of (startRefusal sheet) (logRefusal (machineOf (tableOf sheet)) log) bad, ne-eqb (startRefusal sheet) 0 bad, counted ∙ ap countsOf none ∙ none-counted, start-refusal)
 
-  module _ (passed : started .refusal ≡ 0) (run : Run) (gone : run ≡ goOnAnswer (started .machine) log) where
+  module _ (passed : started .refusal ≡ 0) where
     good : startRefusal sheet ≡ 0
     good = sym start-refusal ∙ passed
 
@@ -76,17 +82,50 @@ module _ (sheet log : List ℕ) (started : Run) (start : started ≡ startAnswer
     unfolding startAnswer
     machine-started = ap (λ (r : Run). r .machine) start ∙ ap (λ (b : Bool). cond b (machineOf (tableOf sheet)) noMachine) (eq-eqb (startRefusal sheet) 0 good)
 
-    answered : run ≡ goOnAnswer (machineOf (tableOf sheet)) log
-    answered = gone ∙ ap (λ (m : Machine). goOnAnswer m log) machine-started
+    module _ (run : Run) (gone : run ≡ goOnAnswer (started .machine) log) where
+      answered : run ≡ goOnAnswer (machineOf (tableOf sheet)) log
+      answered = gone ∙ ap (λ (m : Machine). goOnAnswer m log) machine-started
 
-    pick-counts : (b : Bool) (m : Machine) → countsOf (cond b m noMachine) ≡ cond b (countsOf m) noCounts
-    pick-counts true m = refl
-    pick-counts false m = none-counted
+      pick-counts : (b : Bool) (m : Machine) → countsOf (cond b m noMachine) ≡ cond b (countsOf m) noCounts
+      pick-counts true m = refl
+      pick-counts false m = none-counted
 
-    pub replay-gone : (counts : Counts) → counts ≡ countsOf (run .machine) → record { refusal = run .refusal; counts = counts } ≡ replayAnswer sheet log
-    unfolding replayAnswer replayRefusal goOnAnswer
-    replay-gone counts counted =
-        let m = machineOf (tableOf sheet) in
-        let refusal : run .refusal ≡ logRefusal m log = ap (λ (r : Run). r .refusal) answered in
-        let said : counts ≡ cond (eqb (logRefusal m log) 0) (countsOf (ranOver m log)) noCounts = counted ∙ ap (λ (r : Run). countsOf (r .machine)) answered ∙ pick-counts (eqb (logRefusal m log) 0) (ranOver m log) in
-        simp (next-of (logRefusal m log) good) (λ i. record { refusal = refusal i; counts = said i })
+      pub replay-gone : (counts : Counts) → counts ≡ countsOf (run .machine) → record { refusal = run .refusal; counts = counts } ≡ replayAnswer sheet log
+      unfolding replayAnswer replayRefusal goOnAnswer
+      replay-gone counts counted =
+          let m = machineOf (tableOf sheet) in
+          let refusal : run .refusal ≡ logRefusal m log = ap (λ (r : Run). r .refusal) answered in
+          let said : counts ≡ cond (eqb (logRefusal m log) 0) (countsOf (ranOver m log)) noCounts = counted ∙ ap (λ (r : Run). countsOf (r .machine)) answered ∙ pick-counts (eqb (logRefusal m log) 0) (ranOver m log) in
+          simp (next-of (logRefusal m log) good) (λ i. record { refusal = refusal i; counts = said i })
+
+  -- a record that is refused for its sheet, or else answered by the sheet's machine
+  pub check-refused : (started .refusal ≡ 0 → ⊥) → Refused (started .refusal) ≡ checkAnswer sheet log
+  unfolding checkAnswer checkRefusal
+  check-refused broken =
+      let bad : startRefusal sheet ≡ 0 → ⊥ = λ e. broken (start-refusal ∙ e) in
+      let first = first-of (startRefusal sheet) (suppliedRefusal (machineOf (tableOf sheet)) log) bad in
+      ap Refused (start-refusal ∙ sym first) ∙ sym (compared-refused _ _ _ (λ e. bad (sym first ∙ e)))
+
+  pub check-gone : started .refusal ≡ 0 → (answer : Checked) → answer ≡ suppliedAnswer (started .machine) log → answer ≡ checkAnswer sheet log
+  unfolding suppliedAnswer checkAnswer checkRefusal
+  check-gone passed answer e =
+      e ∙ ap (λ (m : Machine). suppliedAnswer m log) (machine-started passed)
+      ∙ ap (λ (r : ℕ). compared r (length log / 3) (matching (machineOf (tableOf sheet)) log)) (sym (next-of _ (good passed)))
+
+-- the refusal of a record: 14, or that of the log it contains
+module _ (m : Machine) (supplied : List ℕ) where
+  pub supplied-cut : (length supplied % 3 ≡ 0 → ⊥) → suppliedRefusal m supplied ≡ 14
+  unfolding suppliedRefusal
+  supplied-cut cut = simp (ne-eqb (length supplied % 3) 0 cut)
+
+  pub supplied-log : length supplied % 3 ≡ 0 → suppliedRefusal m supplied ≡ logRefusal m (logIn supplied)
+  unfolding suppliedRefusal
+  supplied-log whole = simp (eq-eqb (length supplied % 3) 0 whole)
+
+  pub record-cut : (length supplied % 3 ≡ 0 → ⊥) → Refused 14 ≡ suppliedAnswer m supplied
+  unfolding suppliedAnswer
+  record-cut cut = sym (ap (λ (r : ℕ). compared r (length supplied / 3) (matching m supplied)) (supplied-cut cut) ∙ compared-refused 14 _ _ (λ e. omega arith))
+
+  pub record-compared : length supplied % 3 ≡ 0 → (run : Run) → run ≡ goOnAnswer m (logOf 3 supplied) → (same : ℕ) → same ≡ matching m supplied → compared (run .refusal) (length supplied / 3) same ≡ suppliedAnswer m supplied
+  unfolding suppliedAnswer goOnAnswer logOf
+  record-compared whole run gone same is = λ i. compared ((ap (λ (r : Run). r .refusal) gone ∙ sym (supplied-log whole)) i) (length supplied / 3) (is i)

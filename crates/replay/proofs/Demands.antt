@@ -113,7 +113,7 @@ pub replay-by-parts : (sheet log : List ℕ) → startRefusal sheet ≡ 0
 unfolding startAnswer
 replay-by-parts sheet log good = sym (replay-gone sheet log (startAnswer sheet) refl good (goOnAnswer (startAnswer sheet .machine) log) refl _ refl)
 
-started-free : (place : ℕ) → place < 8 → cellAt (replicate 8 noCell) place ≡ noCell
+pub started-free : (place : ℕ) → place < 8 → cellAt (replicate 8 noCell) place ≡ noCell
 unfolding cellAt
 started-free place below = getD-replicate 8 place noCell noCell below
 

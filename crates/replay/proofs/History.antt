@@ -31,20 +31,20 @@ abbrev pub refusalAt : Machine → List ℕ → ℕ → ℕ
 refusalAt m log time = tickRefusal (machineAt m log time) (releasesAt log time) (faultsAt log time)
 
 module _ (r f : ℕ) (log : List ℕ) where
-  releases-shift : (time : ℕ) → releasesAt (r ∷ f ∷ log) (suc time) ≡ releasesAt log time
+  pub releases-shift : (time : ℕ) → releasesAt (r ∷ f ∷ log) (suc time) ≡ releasesAt log time
   unfolding releasesAt
   releases-shift time =
       let twice : 2 * suc time ≡ suc (suc (2 * time)) = omega arith in
       ap (λ (n : ℕ). getD (r ∷ f ∷ log) n 0) twice
 
-  faults-shift : (time : ℕ) → faultsAt (r ∷ f ∷ log) (suc time) ≡ faultsAt log time
+  pub faults-shift : (time : ℕ) → faultsAt (r ∷ f ∷ log) (suc time) ≡ faultsAt log time
   unfolding faultsAt
   faults-shift time =
       let twice : 2 * suc time + 1 ≡ suc (suc (2 * time + 1)) = omega arith in
       ap (λ (n : ℕ). getD (r ∷ f ∷ log) n 0) twice
 
   module _ (m : Machine) where
-    machine-shift : (time : ℕ) → machineAt m (r ∷ f ∷ log) (suc time) ≡ machineAt (tick m r f) log time
+    pub machine-shift : (time : ℕ) → machineAt m (r ∷ f ∷ log) (suc time) ≡ machineAt (tick m r f) log time
     unfolding machineAt releasesAt faultsAt
     machine-shift zero = refl
     machine-shift (suc time) = λ i. tick (machine-shift time i) (releases-shift time i) (faults-shift time i)

@@ -12,6 +12,7 @@ pub mod Going
 pub mod Joined
 pub mod Countdown
 pub mod History
+pub mod Matched
 pub mod Order
 pub mod Placed
 pub mod Kept
@@ -20,3 +21,4 @@ pub mod Answered
 pub mod Rows
 pub mod Unique
 pub mod Demands
+pub mod Records

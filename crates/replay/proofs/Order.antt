@@ -12,7 +12,7 @@ use lib.Dec.{eqb}
 use lib.Count.{leading-top}
 use lib.Pow.{pow-pos, shr-shr}
 use lib.ListN.{length}
-use Rattle.sheet.specs.Places.{orElse, someBelow}
+use Rattle.sheet.specs.Places.{orElse, someBelow, joinedBelow}
 use Rattle.sheet.specs.Layout.{recordAt, tableOf, isWhole}
 use Rattle.sheet.specs.Broken.{Row, row, InOrder, sheetRows}
 use Rattle.sheet.proofs.Tells.{Tells, holds, fails, tells, or-tells, and-tells, not-tells, eqb-tells}
@@ -20,7 +20,7 @@ use Rattle.sheet.proofs.Order.{Says, none, first, says-none, says-row, says-joi
 use Rattle.replay.specs.declared.Machine.{Machine}
 use Rattle.replay.specs.Tick.{isReleased, isAbove, isMarked, hasOther}
 use Rattle.replay.specs.Cells.{cellAt}
-use Rattle.replay.specs.Rules.{sharedRefusal, startRefusal, isStrange, isEarly, someEarly, isHasty, tickRefusal, logRefusal}
+use Rattle.replay.specs.Rules.{sharedRefusal, startRefusal, isStrange, isEarly, someEarly, isHasty, tickRefusal, ticksRefusal, logRefusal}
 use Rattle.replay.specs.Positions.{ticksOf, releasesAt, faultsAt, Sooner, tickRows, logRows, LogNumber, startRows, StartNumber, ReplayNumber}
 use Rattle.replay.proofs.Binary.{twice}
 use Rattle.replay.proofs.Found.{not-holds, some-where, some-found}
@@ -66,6 +66,14 @@ above-tells x n = tells (isAbove x n) some (λ e w. omega (arith, released-below
 pub log-positive : (r : ℕ) → LogNumber r → 0 < r
 log-positive r k = omega arith
 
+-- 14 is tried before what the rest says
+pub length-first : (over : ℕ) {rows : List Row} {rest whole : ℕ} → (over ≡ 0 → whole ≡ rest) → ((over ≡ 0 → ⊥) → whole ≡ 14) → Says LogNumber rows rest → Says LogNumber (row 14 (over ≡ 0 → ⊥) ∷ rows) whole
+length-first over {rows} {rest} {whole} even odd says = go (ℕ-discrete over 0)
+  where
+    go : Dec (over ≡ 0) → Says LogNumber (row 14 (over ≡ 0 → ⊥) ∷ rows) whole
+    go (yes e) = rw (even e) (says-row {b = false} {number = 14} (omega arith) (fails (λ o. o e)) (λ n. says))
+    go (no o) = rw (odd o) (first {r = 14} (omega arith) (inl (refl, o)))
+
 module _ (m : Machine) (log : List ℕ) (free : (place : ℕ) → place < 8 → cellAt (m .cells) place .wait ≡ 0) (calm : m .gap ≡ 0) where
   abbrev rows : ℕ → List Row
   rows = tickRows (m .count) (m .interval) (recordAt (m .tasks)) log
@@ -89,13 +97,13 @@ module _ (m : Machine) (log : List ℕ) (free : (place : ℕ) → place < 8 → 
   tick-says time =
       says-row (omega arith) (strange-tells time) (λ plain. says-row (omega arith) (early-tells time) (λ late. says-row (omega arith) (hasty-tells time) (λ spaced. says-none)))
 
+  -- what the refusal of its ticks says of their rows
+  pub ticks-say : Says LogNumber (joinedBelow rows (ticksOf log)) (ticksRefusal m log)
+  ticks-say = rw (ticks-first m log) (says-below log-positive rows (refusalAt m log) tick-says (ticksOf log))
+
   -- what a log's refusal says of its rows
   pub log-says : Says LogNumber (logRows (m .count) (m .interval) (recordAt (m .tasks)) log) (logRefusal m log)
-  log-says = go (ℕ-discrete (length log % 2) 0)
-    where
-      go : Dec (length log % 2 ≡ 0) → Says LogNumber (logRows (m .count) (m .interval) (recordAt (m .tasks)) log) (logRefusal m log)
-      go (yes even) = rw (even-ticks m log even, ticks-first m log) (says-row {b = false} {number = 14} (omega arith) (fails (λ odd. odd even)) (λ n. says-below log-positive rows (refusalAt m log) tick-says (ticksOf log)))
-      go (no odd) = rw (odd-refused m log odd) (first {r = 14} (omega arith) (inl (refl, odd)))
+  log-says = length-first (length log % 2) (even-ticks m log) (odd-refused m log) ticks-say
 
   -- a log's refusal is given in the order of its rows
   pub log-in-order : InOrder LogNumber (logRows (m .count) (m .interval) (recordAt (m .tasks)) log) (logRefusal m log)

@@ -1,8 +1,9 @@
--- Ask 3's log tick by tick, by computation: "In the log all are released at 0, the fault falls in the fourth tick, the second task comes again at 7, and the first finishes at 12." Assumes nothing.
+-- Ask 3's log tick by tick, and as a supplier's record, by computation: "In the log all are released at 0, the fault falls in the fourth tick, the second task comes again at 7, and the first finishes at 12." Assumes nothing.
 use Prim.Native.Nat.{ℕ}
 use mathlib.Core.Path.{_≡_, refl}
 use mathlib.Core.List.{List, [], _∷_}
 use lib.ListN.{take}
+use Rattle.replay.specs.declared.Checked.the-variants.{Refused, Accepted, Differs}
 use Rattle.sheet.specs.Places.{orElse, firstBelow, someBelow, filledBelow}
 use Rattle.sheet.specs.Packing.{regrouped}
 use Rattle.sheet.specs.Layout.{headerOf, countOf, editionOf, intervalOf, roundOf, shareOf, startOf, sizeOf, isWhole, partOf, recordFrom, recordOf, sheetRecord, recordAt, room, tableOf}
@@ -14,7 +15,8 @@ use Rattle.replay.specs.Step.{entered, runs, ran, faulted, isLast, isMis
 use Rattle.replay.specs.Counts.{cellOf, gains, added, unfinishedIn, countsFrom}
 use Rattle.replay.specs.Machines.{withPriority, byPriority, machineOf, cellsEntered, runnerOf, cellsRan, tickGains, tick, ranOver, countsOf}
 use Rattle.replay.specs.Rules.{sharedRefusal, startRefusal, isStrange, isEarly, someEarly, isHasty, tickRefusal, ticksRefusal, logRefusal}
-use Rattle.replay.specs.Answers.{replayRefusal, replayAnswer}
+use Rattle.replay.specs.Shown.{logIn, shown, matching, suppliedRefusal}
+use Rattle.replay.specs.Answers.{replayRefusal, replayAnswer, compared, checkRefusal, checkAnswer}
 
 -- "Tasks (C, B, D, T, p, q): 4 4 100 100 3 1; 2 1 7 7 2 2; 1 1 100 100 1 1; E = 100."
 unfoldable pub sheet : List ℕ
@@ -39,3 +41,13 @@ log-counts = refl
 pub first-done : (leftAfter 22 ≡ 1) × (leftAfter 24 ≡ 0)
 unfolding leftAfter sheet log someBelow filledBelow regrouped headerOf countOf editionOf intervalOf startOf partOf recordFrom recordOf sheetRecord recordAt room tableOf isReleased isMarked cellAt eight isReady oneIf countBelow highest levelOf isAt topLevel topBackup runner entered runs ran faulted isLast isMissed ended gapAfter cellOf gains added withPriority byPriority machineOf cellsEntered runnerOf cellsRan tickGains tick ranOver
 first-done = (refl, refl)
+
+-- the same ticks as a record, with what the tick at 6 shows, and what the last says is released and shows
+unfoldable pub supplied : ℕ → ℕ → ℕ → List ℕ
+supplied backup releases last =
+    7 ∷ 0 ∷ 3 ∷ 0 ∷ 0 ∷ 3 ∷ 0 ∷ 0 ∷ 3 ∷ 0 ∷ 128 ∷ 3 ∷ 0 ∷ 0 ∷ 2 ∷ 0 ∷ 0 ∷ 2 ∷ 0 ∷ 0 ∷ backup ∷ 2 ∷ 0 ∷ 2 ∷ 0 ∷ 0 ∷ 2 ∷ 0 ∷ 0 ∷ 131 ∷ 0 ∷ 0 ∷ 131 ∷ releases ∷ 0 ∷ last ∷ []
+
+-- accepted with the first task's backup as 128 + 3; without the top bit that tick differs, and a wrong last tick does; a release above n in the last tick is refused, though an earlier tick differs
+pub record-checked : (checkAnswer sheet (supplied 131 0 131) ≡ Accepted) × (checkAnswer sheet (supplied 3 0 131) ≡ Differs 6) × (checkAnswer sheet (supplied 131 0 0) ≡ Differs 11) × (checkAnswer sheet (supplied 3 8 131) ≡ Refused 15)
+unfolding sheet supplied orElse firstBelow someBelow filledBelow regrouped headerOf countOf editionOf intervalOf roundOf shareOf startOf sizeOf isWhole partOf recordFrom recordOf sheetRecord recordAt room tableOf outside wrongShare taken refusalOf recordRefusal recordsRefusal headerRefusal sheetRefusal sharedRefusal startRefusal isReleased isAbove isMarked hasOther cellAt eight isReady oneIf countBelow highest levelOf isAt topLevel topBackup runner entered runs ran faulted isLast isMissed ended gapAfter cellOf gains added withPriority byPriority machineOf cellsEntered runnerOf cellsRan tickGains tick isStrange isEarly someEarly isHasty tickRefusal ticksRefusal logRefusal logIn shown matching suppliedRefusal compared checkRefusal checkAnswer
+record-checked = (refl, refl, refl, refl)

@@ -7,8 +7,9 @@ use Rattle.replay.specs.declared.Counts.{Counts}
 use Rattle.replay.specs.declared.Machine.{Machine}
 use Rattle.replay.specs.declared.Run.{Run}
 use Rattle.replay.specs.declared.Replayed.{Replayed}
+use Rattle.replay.specs.declared.Checked.{Checked}
 use Rattle.replay.specs.Machines.{countsOf}
-use Rattle.replay.specs.Answers.{startAnswer, goOnAnswer, replayAnswer}
+use Rattle.replay.specs.Answers.{startAnswer, goOnAnswer, replayAnswer, checkAnswer}
 
 pub Machine-start-unique : (sheet : List ℕ) (a b : Run) → a ≡ startAnswer sheet → b ≡ startAnswer sheet → a ≡ b
 Machine-start-unique sheet a b = both
@@ -21,3 +22,6 @@ Machine-counts-unique m a b = both
 
 pub replay-unique : (sheet log : List ℕ) (a b : Replayed) → a ≡ replayAnswer sheet log → b ≡ replayAnswer sheet log → a ≡ b
 replay-unique sheet log a b = both
+
+pub check-unique : (sheet supplied : List ℕ) (a b : Checked) → a ≡ checkAnswer sheet supplied → b ≡ checkAnswer sheet supplied → a ≡ b
+check-unique sheet supplied a b = both

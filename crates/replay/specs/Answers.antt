@@ -1,16 +1,20 @@
 -- What each public call answers, refusals included.
-use Prim.Native.Nat.{ℕ}
+use Prim.Native.Nat.{ℕ, _/_}
 use mathlib.Core.Bool.{cond}
 use mathlib.Core.List.{List}
 use lib.Dec.{eqb}
+use lib.ListN.{length}
 use Rattle.sheet.specs.Places.{orElse}
 use Rattle.sheet.specs.Layout.{tableOf}
 use Rattle.replay.specs.declared.Machine.{Machine}
 use Rattle.replay.specs.declared.Run.{Run}
 use Rattle.replay.specs.declared.Replayed.{Replayed}
+use Rattle.replay.specs.declared.Checked.{Checked}
+use Rattle.replay.specs.declared.Checked.the-variants.{Refused, Accepted, Differs}
 use Rattle.replay.specs.Counts.{noCounts}
 use Rattle.replay.specs.Machines.{machineOf, noMachine, ranOver, countsOf}
 use Rattle.replay.specs.Rules.{startRefusal, logRefusal}
+use Rattle.replay.specs.Shown.{matching, suppliedRefusal}
 
 -- `Machine::start`: the sheet's refusal, its own or 19, beside its machine, a machine of zeros where it is refused
 unfoldable pub startAnswer : List ℕ → Run
@@ -31,3 +35,19 @@ replayAnswer sheet log =
       refusal = replayRefusal sheet log;
       counts = cond (eqb (replayRefusal sheet log) 0) (countsOf (ranOver (machineOf (tableOf sheet)) log)) noCounts;
     }
+
+-- a refusal's number; or, of so many ticks, "accept a record exactly if every tick shows what Ask 1's rules say; otherwise give the first tick, from 0, that differs", which is the number of those before it
+unfoldable pub compared : ℕ → ℕ → ℕ → Checked
+compared refusal ticks same = cond (eqb refusal 0) (cond (eqb same ticks) Accepted (Differs same)) (Refused refusal)
+
+-- what a machine says of a record that starts with it
+unfoldable pub suppliedAnswer : Machine → List ℕ → Checked
+suppliedAnswer m supplied = compared (suppliedRefusal m supplied) (length supplied / 3) (matching m supplied)
+
+-- the refusal of a record, "over the whole record first": the sheet's, its own or 19, then the record's
+unfoldable pub checkRefusal : List ℕ → List ℕ → ℕ
+checkRefusal sheet supplied = orElse (startRefusal sheet) (suppliedRefusal (machineOf (tableOf sheet)) supplied)
+
+-- `check`: refused, accepted, or the first tick that differs
+unfoldable pub checkAnswer : List ℕ → List ℕ → Checked
+checkAnswer sheet supplied = compared (checkRefusal sheet supplied) (length supplied / 3) (matching (machineOf (tableOf sheet)) supplied)

@@ -1,4 +1,4 @@
--- What a reader of the crate's promises must believe, in the order of ask 1. `Totals` and `Positions` are what theorems speak of, and `Bits` is an inner device; no public promise cites them.
+-- What a reader of the crate's promises must believe, in the order of asks 1 and 7. `Totals` and `Positions` are what theorems speak of, and `Bits` is an inner device; no public promise cites them.
 pub mod Tick
 pub mod Cells
 pub mod Runner
@@ -6,6 +6,7 @@ pub mod Step
 pub mod Counts
 pub mod Machines
 pub mod Rules
+pub mod Shown
 pub mod Answers
 pub mod Totals
 pub mod Positions

@@ -10,6 +10,7 @@ use Rattle.sheet.specs.Places.{joinedBelow}
 use Rattle.sheet.specs.Layout.{tableOf}
 use Rattle.sheet.specs.Broken.{Row, row, RuleNumber, sheetRows}
 use Rattle.replay.specs.Tick.{isReleased, isMarked}
+use Rattle.replay.specs.Shown.{logIn}
 
 -- "A log has two bytes per tick"
 abbrev pub ticksOf : List ℕ → ℕ
@@ -40,7 +41,11 @@ tickRows n interval tasks log time =
 abbrev pub logRows : ℕ → ℕ → (ℕ → Record) → List ℕ → List Row
 logRows n interval tasks log = row 14 (length log % 2 ≡ 0 → ⊥) ∷ joinedBelow (tickRows n interval tasks log) (ticksOf log)
 
--- the numbers of its rows
+-- what is tried on a supplier's record: "14 now for a length that is not a multiple of three", then the same on the log that it contains
+abbrev pub suppliedRows : ℕ → ℕ → (ℕ → Record) → List ℕ → List Row
+suppliedRows n interval tasks supplied = row 14 (length supplied % 3 ≡ 0 → ⊥) ∷ joinedBelow (tickRows n interval tasks (logIn supplied)) (length supplied / 3)
+
+-- the numbers of the rows of both
 abbrev pub LogNumber : ℕ → Type 0
 LogNumber r = (14 ≤ r) × (r ≤ 17)
 
@@ -52,6 +57,6 @@ startRows sheet = sheetRows sheet ++ row 19 ((tableOf sheet .round ≡ 1) × (ta
 abbrev pub StartNumber : ℕ → Type 0
 StartNumber r = RuleNumber r ⊎ (r ≡ 19)
 
--- the numbers of the rows of a replay, a sheet's and then a log's
+-- the numbers of the rows of a replay, and of a check, a sheet's and then a log's
 abbrev pub ReplayNumber : ℕ → Type 0
 ReplayNumber r = StartNumber r ⊎ LogNumber r

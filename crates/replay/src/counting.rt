@@ -19,7 +19,7 @@ fn one_if(holds: bool) -> u64
 }
 
 // The cell of a priority, or one without a job.
-fn cell_of(cells: [Cell; 8], priority: u8) -> Cell
+pub fn cell_of(cells: [Cell; 8], priority: u8) -> Cell
     ensures { λ r. ⌜ r ≡ cellOf cells priority ⌝ }
 {
     if priority == 0 {

@@ -1,12 +1,15 @@
-// Replay of the box's log: the machine tick by tick, the rules that a log is judged by, and the seven counts.
+// Replay of the box's log: the machine tick by tick, the rules that a log is judged by, and the seven counts; and whether a supplier's
+// record shows what the machine does.
 // Every call answers any bytes and any machine; a refusal gives its number, and zeros beside it.
 ghost use mathlib.Core.Path.{_≡_};
 ghost use Rattle.replay.specs.Machines.{countsOf};
-ghost use Rattle.replay.specs.Answers.{startAnswer, goOnAnswer, replayAnswer};
+ghost use Rattle.replay.specs.Answers.{startAnswer, goOnAnswer, replayAnswer, checkAnswer};
 use sheet::Record;
 
 mod bits;
+mod checking;
 mod counting;
+mod logs;
 mod phases;
 mod rules;
 mod runner;
@@ -65,6 +68,13 @@ pub struct Replayed {
     pub counts: Counts,
 }
 
+// What `check` answers: refused with the number, accepted, or the first tick, from 0, that differs.
+pub enum Checked {
+    Refused(u8),
+    Accepted,
+    Differs(u64),
+}
+
 impl Machine {
     // The machine of a good whole-processor sheet before the first tick.
     pub fn start(sheet: &[u8]) -> Run
@@ -95,25 +105,7 @@ impl Machine {
                 machine: ticking::no_machine(),
             };
         }
-        let mut machine = self;
-        let mut at: usize = 0;
-        while at < part.len() {
-            let releases = part[at];
-            let faults = part[at + 1];
-            let refusal = rules::judge_tick(machine, releases, faults);
-            if refusal != 0 {
-                return Run {
-                    refusal,
-                    machine: ticking::no_machine(),
-                };
-            }
-            machine = ticking::tick(machine, releases, faults);
-            at += 2;
-        }
-        Run {
-            refusal: 0,
-            machine,
-        }
+        logs::go_over(self, part, 2)
     }
 
     // The seven counts of the ticks so far.
@@ -145,4 +137,17 @@ pub fn replay(sheet: &[u8], log: &[u8]) -> Replayed
         refusal: run.refusal,
         counts: last.counts(),
     }
+}
+
+// Whether each tick of a supplier's record shows what ran.
+pub fn check(sheet: &[u8], supplied: &[u8]) -> Checked
+    ensures { λ r. ⌜ r ≡ checkAnswer (now (sheet .entry)) (now (supplied .entry)) ⌝ }
+{
+    let started = Machine::start(sheet);
+    let refusal = started.refusal;
+    let machine = started.machine;
+    if refusal != 0 {
+        return Checked::Refused(refusal);
+    }
+    checking::check_record(machine, supplied)
 }
