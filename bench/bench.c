@@ -1,7 +1,7 @@
 /*
- * Measures the library against the climbing baseline and prints three tables in Markdown. First every
- * measured call is made once on both sides, and any difference in answers or bytes ends the program with
- * status 1; then the two sides are timed in turn, and the shortest time of each is shown.
+ * Measures the library against the climbing baseline and prints four tables in Markdown. First every
+ * measured call is made once on every side, and any difference in answers or bytes ends the program with
+ * status 1; then the sides are timed in turn, and the shortest time of each is shown.
  * The one argument is a sentence on how the program was built and is run, which is printed on top.
  */
 #define _POSIX_C_SOURCE 199309L
@@ -22,8 +22,12 @@
 #define LOG_TICKS 10000
 #define LENGTH(array) (sizeof(array) / sizeof((array)[0]))
 
+/* The sides: the library, the baseline, and the baseline that asks the lowest task first, which one table has. */
+enum { LIBRARY, CLIMBING, LOWEST_FIRST, SIDES };
+
 /* The calls of one side. */
 struct side {
+    const char *name;
     uint8_t (*judge)(const uint8_t *, size_t);
     int64_t (*rewrite)(const uint8_t *, size_t, uint8_t *, size_t);
     int64_t (*response)(const uint8_t *, size_t, size_t);
@@ -41,7 +45,7 @@ struct packed {
     size_t count;
 };
 
-/* One measured use of a side; answers and bytes are compared between the sides. */
+/* One measured use of a side; answers and bytes are compared with the library's. */
 typedef int64_t measured_use(const struct side *side, const struct packed *sheet, uint8_t *out);
 
 /*
@@ -56,7 +60,7 @@ struct row {
     uint8_t place;
     uint16_t deadline;
     const char *reason;
-    double seconds[2];
+    double seconds[SIDES];
 };
 
 /* How a row is timed after its check: at least so many repetitions, each so long, and so long in all. */
@@ -66,13 +70,24 @@ struct effort {
     double all;
 };
 
-static const struct side sides[2] = {
-    {fq_judge, fq_rewrite, fq_response, fq_verdict, fq_least_interval, fq_next, fq_list, fq_replay},
-    {climbing_judge, climbing_rewrite, climbing_response, climbing_verdict, climbing_least_interval,
-     climbing_next, climbing_list, climbing_replay},
+/* One table: its rows, and how many of the sides it has, the first ones. */
+struct table {
+    const char *title;
+    struct row *rows;
+    size_t count;
+    int sides;
+    struct effort effort;
 };
 
-static uint8_t outputs[2][FQ_LIST_BYTES];
+static const struct side sides[SIDES] = {
+    {"library", fq_judge, fq_rewrite, fq_response, fq_verdict, fq_least_interval, fq_next, fq_list, fq_replay},
+    {"climbing C", climbing_judge, climbing_rewrite, climbing_response, climbing_verdict, climbing_least_interval,
+     climbing_next, climbing_list, climbing_replay},
+    {"climbing C, lowest first", climbing_judge, climbing_rewrite, climbing_response, climbing_verdict,
+     climbing_least_interval, lowest_first_next, lowest_first_list, climbing_replay},
+};
+
+static uint8_t outputs[SIDES][FQ_LIST_BYTES];
 static uint8_t busy_log[2 * LOG_TICKS];
 
 /* Judges a sheet. */
@@ -200,7 +215,8 @@ static struct row main_rows[] = {
     {.name = "verdict on 8 tasks, passing", .use = use_verdict, .sheet = &everyday},
     {.name = "list of 8 tasks, all 40320 pass", .use = use_list, .sheet = &everyday},
     {.name = "list of 8 tasks, 20160 pass", .use = use_list, .sheet = &everyday, .place = 3, .deadline = 170},
-    {.name = "list of 8 tasks, none: first record late", .use = use_list, .sheet = &everyday, .deadline = 250},
+    {.name = "list of 8 tasks, none: second record late", .use = use_list, .sheet = &everyday, .place = 1,
+     .deadline = 115},
     {.name = "list of 8 tasks, none: last record late", .use = use_list, .sheet = &everyday, .place = 7, .deadline = 29},
     {.name = "least interval of 8 tasks, 171", .use = use_least_interval, .sheet = &everyday},
     {.name = "walk through all 720 of 6 tasks", .use = use_walk, .sheet = &everyday, .count = 6},
@@ -226,6 +242,14 @@ static struct row growth_rows[] = {
 };
 
 /* The third table. */
+static struct row lowest_rows[] = {
+    {.name = "list, lowest in the first record", .use = use_list, .sheet = &lowest_late_first},
+    {.name = "list, lowest in the last record", .use = use_list, .sheet = &lowest_late_last},
+    {.name = "one step of the walk, lowest in the first record", .use = use_next, .sheet = &lowest_late_first},
+    {.name = "one step of the walk, lowest in the last record", .use = use_next, .sheet = &lowest_late_last},
+};
+
+/* The fourth table. */
 static struct row slow_rows[] = {
     {.name = "response", .use = use_response, .sheet = &slow_response,
      .reason = "a fault at every tick: 65535 steps of one tick, then late"},
@@ -234,14 +258,28 @@ static struct row slow_rows[] = {
     {.name = "least interval, none", .use = use_least_interval, .sheet = &slow_interval,
      .reason = "all 65535 intervals are tried, most after long climbs"},
     {.name = "list of 6 tasks, none", .use = use_list, .sheet = &slow_steps,
-     .reason = "a job at every tick: each of 720 choices takes 32768 or 65535 steps"},
+     .reason = "jobs at nearly every tick: each of 720 choices is refuted after some 15000 steps"},
     {.name = "list of 8 tasks, none", .use = use_list, .sheet = &slow_choices,
-     .reason = "each of 40320 choices is refuted after long climbs"},
+     .reason = "each of 40320 choices is refuted after some 190 steps"},
     {.name = "one step of the walk, end", .use = use_next, .sheet = &slow_choices,
      .reason = "the same sheet: one call tries all 40320 choices"},
 };
 
-static struct row refused_row = {.name = "refused calls", .use = use_refused, .sheet = &everyday};
+static struct row refused_rows[] = {{.name = "refused calls", .use = use_refused, .sheet = &everyday}};
+
+/* How the rows of a table are timed. */
+#define USUAL {3, 0.002, 0.4}
+#define SLOW {1, 0.002, 0.2}
+
+static const struct table refused_calls = {"Refused calls", refused_rows, LENGTH(refused_rows), SIDES, USUAL};
+
+static const struct table tables[] = {
+    {"The calls", main_rows, LENGTH(main_rows), LOWEST_FIRST, USUAL},
+    {"Growth with the number of tasks n", growth_rows, LENGTH(growth_rows), LOWEST_FIRST, USUAL},
+    {"The lowest task of 8 is late", lowest_rows, LENGTH(lowest_rows), SIDES, USUAL},
+    {"Slow sheets (judging and rewriting are slowest on any good sheet of 8)", slow_rows, LENGTH(slow_rows),
+     LOWEST_FIRST, SLOW},
+};
 
 /* The present time in seconds. */
 static double now(void)
@@ -271,34 +309,34 @@ static struct packed pack(const struct row *row)
     return packed;
 }
 
-/* Makes the calls of each row once on both sides; a difference ends the program. */
-static void check(struct row *rows, size_t count)
+/* Makes the calls of each row of a table once on each of its sides; a difference ends the program. */
+static void check(const struct table *table)
 {
-    for (struct row *row = rows; row < rows + count; row++) {
+    for (struct row *row = table->rows; row < table->rows + table->count; row++) {
         struct packed sheet = pack(row);
-        int64_t answers[2];
+        int64_t answers[SIDES];
 
-        for (int side = 0; side < 2; side++) {
+        for (int side = 0; side < table->sides; side++) {
             memset(outputs[side], UNTOUCHED, FQ_LIST_BYTES);
             double start = now();
             answers[side] = row->use(&sides[side], &sheet, outputs[side]);
             row->seconds[side] = now() - start;
-        }
-        if (answers[0] != answers[1] || memcmp(outputs[0], outputs[1], FQ_LIST_BYTES) != 0) {
-            fprintf(stderr, "the two sides differ on \"%s\"\n", row->name);
-            exit(1);
+            if (answers[side] != answers[LIBRARY] || memcmp(outputs[side], outputs[LIBRARY], FQ_LIST_BYTES) != 0) {
+                fprintf(stderr, "the sides differ on \"%s\"\n", row->name);
+                exit(1);
+            }
         }
     }
 }
 
-/* Times both sides of a row in turn, and keeps the shortest time of each, which sets how often to call next. */
-static void measure(struct row *row, const struct effort *effort)
+/* Times the sides of a row in turn, and keeps the shortest time of each, which sets how often to call next. */
+static void measure(struct row *row, int count, const struct effort *effort)
 {
     struct packed sheet = pack(row);
     double end = now() + effort->all;
 
-    for (int turn = 0; turn < 2 * effort->repetitions || turn % 2 != 0 || now() < end; turn++) {
-        int side = turn % 2;
+    for (int turn = 0; turn < count * effort->repetitions || turn % count != 0 || now() < end; turn++) {
+        int side = turn % count;
         long calls = 1 + (long)(effort->each / (row->seconds[side] + 1e-9));
         double start = now();
 
@@ -323,20 +361,34 @@ static void print_time(double seconds)
         printf(" %.2f s |", seconds);
 }
 
-/* Measures and prints one table. */
-static void print_table(const char *title, struct row *rows, size_t count, const struct effort *effort)
+/* Prints the head of a table: the library's time, and beside it that of each other side with the ratio to it. */
+static void print_head(const struct table *table)
 {
-    int reasons = rows->reason != NULL;
+    int reasons = table->rows->reason != NULL;
 
-    printf("\n## %s\n\n| Call | library | climbing C | ratio |%s\n", title, reasons ? " why it is slow |" : "");
-    printf("|---|---:|---:|---:|%s\n", reasons ? "---|" : "");
-    for (struct row *row = rows; row < rows + count; row++) {
-        measure(row, effort);
+    printf("\n## %s\n\n| Call | %s |", table->title, sides[LIBRARY].name);
+    for (int side = CLIMBING; side < table->sides; side++)
+        printf(" %s | ratio |", sides[side].name);
+    printf("%s\n|---|---:|", reasons ? " why it is slow |" : "");
+    for (int side = CLIMBING; side < table->sides; side++)
+        printf("---:|---:|");
+    printf("%s\n", reasons ? "---|" : "");
+}
+
+/* Measures and prints one table. */
+static void print_table(const struct table *table)
+{
+    print_head(table);
+    for (struct row *row = table->rows; row < table->rows + table->count; row++) {
+        measure(row, table->sides, &table->effort);
         printf("| %s |", row->name);
-        print_time(row->seconds[0]);
-        print_time(row->seconds[1]);
-        printf(" %.2f |", row->seconds[0] / row->seconds[1]);
-        if (reasons)
+        print_time(row->seconds[LIBRARY]);
+        for (int side = CLIMBING; side < table->sides; side++) {
+            print_time(row->seconds[side]);
+            double ratio = row->seconds[LIBRARY] / row->seconds[side];
+            printf(" %.*f |", ratio < 0.1 ? 5 : 2, ratio);
+        }
+        if (row->reason != NULL)
             printf(" %s |", row->reason);
         printf("\n");
         fflush(stdout);
@@ -346,22 +398,16 @@ static void print_table(const char *title, struct row *rows, size_t count, const
 /* Checks everything, then prints the tables. */
 int main(int argc, char **argv)
 {
-    const struct effort usual = {3, 0.002, 0.4};
-    const struct effort slow = {1, 0.002, 0.2};
-
     if (argc != 2) {
         fprintf(stderr, "one argument is wanted: how the program was built and is run\n");
         return 2;
     }
     fill_log();
-    check(&refused_row, 1);
-    check(main_rows, LENGTH(main_rows));
-    check(growth_rows, LENGTH(growth_rows));
-    check(slow_rows, LENGTH(slow_rows));
-    printf("%s Times are for one call; both sides gave the same answers and bytes.\n", argv[1]);
-    print_table("The calls", main_rows, LENGTH(main_rows), &usual);
-    print_table("Growth with the number of tasks n", growth_rows, LENGTH(growth_rows), &usual);
-    print_table("Slow sheets (judging and rewriting are slowest on any good sheet of 8)", slow_rows,
-                LENGTH(slow_rows), &slow);
+    check(&refused_calls);
+    for (size_t index = 0; index < LENGTH(tables); index++)
+        check(&tables[index]);
+    printf("%s Times are for one call; all sides gave the same answers and bytes.\n", argv[1]);
+    for (size_t index = 0; index < LENGTH(tables); index++)
+        print_table(&tables[index]);
     return 0;
 }

@@ -7,6 +7,7 @@
 
 #define ENTRY_BYTES 4
 #define MOST_INTERVAL 65535
+#define LOWEST 1
 
 #define REFUSED_PLACE 12
 #define REFUSED_CHOICE 13
@@ -243,7 +244,7 @@ int64_t climbing_least_interval(const uint8_t *sheet, size_t len)
 }
 
 /* The next passing choice after any allowed one, 0 at the end, or minus the refusal. */
-int64_t climbing_next(const uint8_t *sheet, size_t len, uint32_t after)
+static int64_t next_choice(const uint8_t *sheet, size_t len, uint32_t after, int is_lowest_first)
 {
     struct table table;
     uint8_t refusal = read_sheet(sheet, len, &table);
@@ -257,6 +258,8 @@ int64_t climbing_next(const uint8_t *sheet, size_t len, uint32_t after)
         return -REFUSED_CHOICE;
     else
         left = set_following(&table);
+    if (is_lowest_first && response(&table, LOWEST) == 0)
+        return 0;
     while (left && !passes(&table))
         left = set_following(&table);
     return left ? pack_choice(&table) : 0;
@@ -266,15 +269,37 @@ int64_t climbing_next(const uint8_t *sheet, size_t len, uint32_t after)
  * Writes every passing choice, and answers how many, or minus the refusal. Where there is room for all
  * choices nothing can be refused any more, so they are counted first only where there is less.
  */
-int64_t climbing_list(const uint8_t *sheet, size_t len, uint8_t *out, size_t out_len)
+static int64_t list_sheet(const uint8_t *sheet, size_t len, uint8_t *out, size_t out_len, int is_lowest_first)
 {
     struct table table;
     uint8_t refusal = read_sheet(sheet, len, &table);
 
     if (refusal != 0)
         return -refusal;
+    if (is_lowest_first && response(&table, LOWEST) == 0)
+        return 0;
     if (out_len < ENTRY_BYTES * count_choices(table.count)
         && out_len < ENTRY_BYTES * list_choices(&table, NULL))
         return -REFUSED_ROOM;
     return (int64_t)list_choices(&table, out);
+}
+
+int64_t climbing_next(const uint8_t *sheet, size_t len, uint32_t after)
+{
+    return next_choice(sheet, len, after, 0);
+}
+
+int64_t climbing_list(const uint8_t *sheet, size_t len, uint8_t *out, size_t out_len)
+{
+    return list_sheet(sheet, len, out, out_len, 0);
+}
+
+int64_t lowest_first_next(const uint8_t *sheet, size_t len, uint32_t after)
+{
+    return next_choice(sheet, len, after, 1);
+}
+
+int64_t lowest_first_list(const uint8_t *sheet, size_t len, uint8_t *out, size_t out_len)
+{
+    return list_sheet(sheet, len, out, out_len, 1);
 }

@@ -15,6 +15,11 @@ int64_t climbing_verdict(const uint8_t *sheet, size_t len);
 int64_t climbing_least_interval(const uint8_t *sheet, size_t len);
 int64_t climbing_next(const uint8_t *sheet, size_t len, uint32_t after);
 int64_t climbing_list(const uint8_t *sheet, size_t len, uint8_t *out, size_t out_len);
+
+/* The same two, but the lowest task is asked first: late, it ends the walk and empties the list. */
+int64_t lowest_first_next(const uint8_t *sheet, size_t len, uint32_t after);
+int64_t lowest_first_list(const uint8_t *sheet, size_t len, uint8_t *out, size_t out_len);
+
 int64_t climbing_replay(const uint8_t *sheet, size_t len, const uint8_t *log, size_t log_len, uint64_t *counts,
                         size_t counts_len);
 

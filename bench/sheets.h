@@ -13,6 +13,9 @@ struct sheet {
 
 extern const struct sheet everyday;
 
+extern const struct sheet lowest_late_first;
+extern const struct sheet lowest_late_last;
+
 extern const struct sheet slow_response;
 extern const struct sheet slow_verdict;
 extern const struct sheet slow_interval;

@@ -1,7 +1,8 @@
 /*
  * Measures how much stack each function of the library needs: it is called on a painted stack of its own, and the paint
  * that is left is counted. The code has no recursion and no frame of varying size, so a sheet that leads through every
- * branch shows the most: the everyday sheet at its own interval, where every choice passes, and at interval 1, where none does.
+ * branch shows the most: the everyday sheet at its own interval, where every choice passes, and at interval 1, where
+ * every task is late.
  */
 #include <stdio.h>
 #include <stdlib.h>

@@ -248,6 +248,17 @@ static void check_walk(struct comparison *comparison, size_t entries)
     check_step(comparison, entries == 0 ? 0 : listed_entry(comparison, entries - 1), 0);
 }
 
+/* Whether the lowest task of a draft is late, which decides its whole list. */
+static bool is_lowest_late(const struct draft *draft)
+{
+    struct sheet sheet = packed(draft);
+    size_t place = 0;
+    while (draft->numbers[place][PRIORITY] != 1) {
+        place++;
+    }
+    return plain_response(sheet.bytes, sheet.length, place) == 0;
+}
+
 /* Lists the choices into outputs too long, just long enough and too short, and walks along the list. */
 static void check_lists(struct comparison *comparison, struct tally *tally, const struct draft *draft)
 {
@@ -266,6 +277,8 @@ static void check_lists(struct comparison *comparison, struct tally *tally, cons
     }
     tally->lists++;
     tally->lists_of_eight += draft->tasks == MOST_TASKS;
+    tally->lists_with_lowest_late += is_lowest_late(draft);
+    tally->other_empty_lists += entries == 0 && !is_lowest_late(draft);
     tally->listed_choices += entries;
 }
 

@@ -21,6 +21,8 @@ struct tally {
     uint64_t least_intervals_of_none;
     uint64_t lists;
     uint64_t lists_of_eight;
+    uint64_t lists_with_lowest_late;
+    uint64_t other_empty_lists;
     uint64_t listed_choices;
     uint64_t logs;
     uint64_t replayed[REPLAY_JUDGEMENTS];

@@ -14,6 +14,7 @@ pub mod Below
 pub mod Former
 pub mod Stages
 pub mod Choice
+pub mod Lowest
 pub mod EachTick
 pub mod Demands
 pub mod Refused

@@ -2,7 +2,7 @@
 -- What stands beside a refusal is in Refused.antt. Assumes nothing.
 use Prim.Native.Nat.{ℕ, zero, suc, _+_, _-_, _*_, _≤_, _<_}
 use mathlib.Core.Path.{_≡_, refl, sym, ap, _∙_, subst}
-use mathlib.Core.Bool.{Bool, true, false, _||_, or-true, true≢false}
+use mathlib.Core.Bool.{Bool, true, false, cond, _||_, or-true, true≢false}
 use mathlib.Core.List.{List, [], _∷_, List·Memᴰ as In, List·Memᴰ·head as here, List·Memᴰ·cases-cons as cases-cons, List·Memᴰ·not-nil as not-nil}
 use mathlib.Core.Logic.{_↔_, _⊎_, inl, inr, ⊎-elim}
 use native.Mathlib.Omega.{arith}
@@ -16,20 +16,25 @@ use Rattle.sheet.specs.Rules.{taken, tableRefusal}
 use Rattle.sheet.proofs.Order.{table-in-order}
 use Rattle.sheet.proofs.Cases.{good-table, good-at}
 use Rattle.sheet.proofs.Refused.{given-unless, tests}
+use Rattle.analysis.specs.Tasks.{tasksOf, ownChoice}
+use Rattle.analysis.specs.Response.{responseTime, late}
 use Rattle.analysis.specs.Allowed.{levelsOf, allAllowed}
-use Rattle.analysis.proofs.Choice.{Allowed, and-true, both-true, allowed-exactly}
+use Rattle.analysis.proofs.Choice.{Allowed, and-true, both-true, allowed-exactly, own-allowed}
+use Rattle.analysis.proofs.Lowest.{response-lowest}
 use Rattle.choices.specs.declared.Walk.{Walk}
 use Rattle.choices.specs.declared.Arrival.the-variants.{Passing, End}
 use Rattle.choices.specs.declared.Stepped.{Stepped}
 use Rattle.choices.specs.Choices.{choicesOf, passingOf}
 use Rattle.choices.specs.Order.{before, allZero, afterOf}
-use Rattle.choices.specs.Answers.{startWalk, walkRefusal, arriveAt, stepAnswer, entryBytes, listRefusal, listLeaves}
+use Rattle.choices.specs.Answers.{startWalk, walkRefusal, arriveAt, stepAnswer, entryBytes, listRefusal, listAnswer, listLeaves}
+use Rattle.choices.specs.Lowest.{Lowest, lowestLate}
 use Rattle.choices.proofs.Sifted.{sift-none, sift-fewer}
 use Rattle.choices.proofs.Members.{sift-members, choices-sound, choices-complete}
 use Rattle.choices.proofs.Advancing.{passesWith, starts, good-start}
 use Rattle.choices.proofs.Counted.{factorial, factorial-rises, filled-factorial}
 use Rattle.choices.proofs.Ordered.{before-irreflexive, before-asymmetric, ascending-places}
-use Rattle.choices.proofs.Listed.{from-start, passing-ascending, passing-eight, start-allowed, next-listed}
+use Rattle.choices.proofs.Listed.{from-start, passing-ascending, passing-eight, start-allowed, next-listed, list-empty}
+use Rattle.choices.proofs.LowestTask.{lowest-late-same, lowest-tested, tested-none}
 use Rattle.choices.proofs.Entries.{entry-at}
 
 -- "eight zero entries"
@@ -224,3 +229,36 @@ module _ (t : Table) (good : tableRefusal t ≡ 0) where
 pub list-bytes : (t : Table) (out : List ℕ) → listRefusal t out ≡ 0 → (k : ℕ) → k < length (passingOf t) → take 4 (drop (4 * k) (listLeaves t out)) ≡ entryBytes (getD (passingOf t) k [])
 unfolding listLeaves
 list-bytes t out good k below = simp good (entry-at (passingOf t) (drop (4 * length (passingOf t)) out) k below)
+
+-- document 02, request 8, about the lowest task of a table. Every good table has one and only one: `lowest-there` and `lowest-once` of LowestTask.antt.
+module _ (t : Table) (place : ℕ) (at : Lowest t place) where
+  -- "The lowest task's response is the same under every choice."
+  pub lowest-response : (c d : List ℕ) → Allowed t c → Allowed t d → responseTime (tasksOf t (t .interval) c) place ≡ responseTime (tasksOf t (t .interval) d) place
+  unfolding responseTime
+  lowest-response c d first second = response-lowest t (t .interval) c d (first .each) (second .each) 65535 place (at .0) (at .1)
+
+  module _ (good : tableRefusal t ≡ 0) (c : List ℕ) (allowed : Allowed t c) (is-late : late (tasksOf t (t .interval) c) place ≡ true) where
+    -- "When it is late the list is empty", under whichever choice it was asked
+    pub late-empty : passingOf t ≡ []
+    late-empty = tested-none t good (lowest-tested t good place at ∙ lowest-late-same t place at (ownChoice t) c (own-allowed t good) allowed ∙ is-late)
+
+    -- so that the list has no entries whatever room there is, and leaves the output as it was: never 11
+    pub late-list : (out : List ℕ) → (listAnswer t out ≡ record { refusal = 0; entries = 0 }) × (listLeaves t out ≡ out)
+    late-list out = list-empty t out good late-empty
+
+    -- and each step that is not refused says end; what may start is as before, and 13 comes first (`start-13`)
+    pub late-step : (w : Walk) → length (w .entries) ≡ 8 → MayStart t (w .entries) → stepAnswer t w ≡ record { walk = w; arrival = End }
+    late-step w eight may = step-end t good w eight may .1 (λ choice member. absurd (not-nil (subst (In choice) late-empty member)))
+
+-- "the desk should say so from that one response": the list where the lowest task is asked first
+unfoldable pub askedFirst : Table → List (List ℕ)
+askedFirst t = cond (lowestLate t) [] (passingOf t)
+
+-- "Listing and walking answer exactly as before": it is the list
+pub list-as-before : (t : Table) → tableRefusal t ≡ 0 → askedFirst t ≡ passingOf t
+unfolding askedFirst
+list-as-before t good = go (lowestLate t) refl
+  where
+    go : (b : Bool) → lowestLate t ≡ b → cond b [] (passingOf t) ≡ passingOf t
+    go true is = sym (tested-none t good is)
+    go false is = refl

@@ -10,6 +10,7 @@ pub mod Members
 pub mod Ordered
 pub mod Advancing
 pub mod Listed
+pub mod LowestTask
 pub mod Rows
 pub mod Unique
 pub mod Demands

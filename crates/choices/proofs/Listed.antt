@@ -18,7 +18,7 @@ use Rattle.analysis.specs.Allowed.{levelsOf, allAllowed}
 use Rattle.analysis.proofs.Choice.{entry-allowed, allowed-length, zero-at-all, length-levels}
 use Rattle.choices.specs.Choices.{choicesOf, sift, passingOf}
 use Rattle.choices.specs.Order.{before, allZero, afterOf}
-use Rattle.choices.specs.Answers.{walkRefusal, listRefusal}
+use Rattle.choices.specs.Answers.{walkRefusal, bytesOf, listRefusal, listAnswer, listLeaves}
 use Rattle.choices.specs.declared.Found.{Found}
 use Rattle.choices.specs.Stepping.{small, foundIn}
 use Rattle.choices.proofs.Sifted.{sift-drops, sift-all}
@@ -158,3 +158,10 @@ module _ (t : Table) (out : List ℕ) where
     pub list-fits : 4 * length (passingOf t) ≤ length out → listRefusal t out ≡ 0
     unfolding listRefusal
     list-fits h = next-of _ good ∙ simp (le-ltb (length out) (4 * length (passingOf t)) h)
+
+    -- an empty list fits every output, and leaves it as it was
+    pub list-empty : passingOf t ≡ [] → (listAnswer t out ≡ record { refusal = 0; entries = 0 }) × (listLeaves t out ≡ out)
+    unfolding listAnswer listLeaves bytesOf
+    list-empty empty =
+        let fits = list-fits (rw empty (omega arith)) in
+        (simp (fits, empty), simp (fits, empty))

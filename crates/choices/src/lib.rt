@@ -4,6 +4,7 @@ ghost use Rattle.choices.specs.Answers.{startWalk, stepAnswer, listAnswe
 use sheet::Table;
 
 mod lister;
+mod lowest;
 mod odometer;
 
 // Where a walk stands: one fault priority for each record, all zero before the first choice.
@@ -56,6 +57,12 @@ impl Walk {
                 arrival: Arrival::Refused(refusal),
             };
         }
+        if lowest::is_late(table) {
+            return Stepped {
+                walk: self,
+                arrival: Arrival::End,
+            };
+        }
         let found = odometer::advance(table, entries);
         if found.is_there {
             let choice = found.choice;
@@ -79,6 +86,12 @@ pub fn list(table: Table, out: &mut [u8]) -> Listing
     if refusal != 0 {
         return Listing {
             refusal,
+            entries: 0,
+        };
+    }
+    if lowest::is_late(table) {
+        return Listing {
+            refusal: 0,
             entries: 0,
         };
     }

@@ -1,0 +1,112 @@
+-- The lowest task of a good table: there is one, looking for it place by place ends at it, and where it is late no choice passes. Assumes nothing.
+use Prim.Native.Nat.{ℕ, _<_}
+use mathlib.Core.Path.{_≡_, refl, sym, ap, _∙_}
+use mathlib.Core.Bool.{Bool, true, false, not, _&&_, true≢false}
+use mathlib.Core.List.{List, []}
+use native.Mathlib.Decide.{ℕ-discrete, decLt}
+use native.Mathlib.Omega.{arith}
+use borrow.Author.Tests.{eq-eqb, ne-eqb, eqb-true}
+use lib.Dec.{eqb}
+use Rattle.sheet.specs.declared.Record.{Record}
+use Rattle.sheet.specs.declared.Table.{Table}
+use Rattle.sheet.specs.Places.{someBelow}
+use Rattle.sheet.specs.Layout.{recordAt}
+use Rattle.sheet.specs.Rules.{taken, tableRefusal}
+use Rattle.sheet.proofs.Cases.{good-table, good-at}
+use Rattle.analysis.specs.Tasks.{tasksOf, ownChoice}
+use Rattle.analysis.specs.Response.{responseTime, isLate, late, passes}
+use Rattle.analysis.specs.Allowed.{levelsOf, allAllowed}
+use Rattle.analysis.specs.declared.Timed.{Timed}
+use Rattle.analysis.specs.Answers.{ownTasks, saysLate, timedAnswer}
+use Rattle.analysis.proofs.Verdicts.{some-found, some-where, none-below}
+use Rattle.analysis.proofs.Choice.{Allowed, and-true, allowed-exactly, allowed-length, length-levels, own-allowed}
+use Rattle.analysis.proofs.Refused.{timed-given}
+use Rattle.analysis.proofs.Lowest.{response-lowest}
+use Rattle.choices.specs.Choices.{choicesOf, passingOf}
+use Rattle.choices.specs.Lowest.{Lowest, lowestLate}
+use Rattle.choices.proofs.Sifted.{sift-none}
+use Rattle.choices.proofs.Members.{choices-sound}
+use Rattle.choices.proofs.Advancing.{passesWith}
+use Rattle.choices.proofs.Counted.{each-there}
+
+-- whether the record at a place has priority 1
+abbrev pub hasOne : List Record → ℕ → Bool
+hasOne records place = eqb (recordAt records place .priority) 1
+
+-- late or not, the lowest task is so under every allowed choice
+pub lowest-late-same : (t : Table) (place : ℕ) → Lowest t place → (c d : List ℕ) → Allowed t c → Allowed t d → late (tasksOf t (t .interval) c) place ≡ late (tasksOf t (t .interval) d) place
+unfolding responseTime
+lowest-late-same t place at c d first second =
+    ap (isLate (recordAt (t .records) place .deadline)) (response-lowest t (t .interval) c d (first .each) (second .each) 65535 place (at .0) (at .1))
+
+module _ (t : Table) (good : tableRefusal t ≡ 0) where
+  some-lowest : someBelow (hasOne (t .records)) (t .count) ≡ true
+  unfolding taken
+  some-lowest =
+      let table = good-table t good in
+      let each = good-at (t .count) (recordAt (t .records)) (table .records) in
+      each-there (λ k. recordAt (t .records) k .priority) (t .count) (λ k h. each k h .priority) (λ k h. each k h .fresh) 0 (omega (arith, table .count .0))
+
+  -- one record has priority 1
+  pub lowest-there : (place : ℕ) × Lowest t place
+  lowest-there =
+      let at = some-where (hasOne (t .records)) (t .count) some-lowest in
+      (at .0, (at .1, eqb-true (recordAt (t .records) (at .0) .priority) 1 (at .2)))
+
+  -- and only one, since no record has the priority of an earlier one
+  not-before : (j k : ℕ) → Lowest t j → Lowest t k → j < k → ⊥
+  unfolding taken
+  not-before j k first second before =
+      let fresh = good-at (t .count) (recordAt (t .records)) (good-table t good .records) k (second .0) .fresh in
+      let found = some-found (λ earlier. eqb (recordAt (t .records) earlier .priority) (recordAt (t .records) k .priority)) j k before (eq-eqb _ _ (first .1 ∙ sym (second .1))) in
+      true≢false (sym found ∙ fresh)
+
+  pub lowest-once : (j k : ℕ) → Lowest t j → Lowest t k → j ≡ k
+  lowest-once j k first second = go (decLt j k) (decLt k j)
+    where
+      go : Dec (j < k) → Dec (k < j) → j ≡ k
+      go (yes h) side = absurd (not-before j k first second h)
+      go (no h) (yes l) = absurd (not-before k j second first l)
+      go (no h) (no l) = omega arith
+
+  -- looking for it place by place: while none has priority 1, it lies ahead
+  pub lowest-ahead : (place : ℕ) → someBelow (hasOne (t .records)) place ≡ false → place < t .count
+  lowest-ahead place none = go (decLt (lowest-there .0) place)
+    where
+      go : Dec (lowest-there .0 < place) → place < t .count
+      go (yes passed) = absurd (true≢false (sym (some-found (hasOne (t .records)) (lowest-there .0) place passed (eq-eqb _ 1 (lowest-there .1 .1))) ∙ none))
+      go (no ahead) = omega (arith, lowest-there .1 .0)
+
+  -- the test tells whether that record is late
+  pub lowest-tested : (place : ℕ) → Lowest t place → lowestLate t ≡ late (ownTasks t) place
+  unfolding lowestLate
+  lowest-tested place at = go (late (ownTasks t) place) refl
+    where
+      other : late (ownTasks t) place ≡ false → (k : ℕ) → k < t .count → Dec (recordAt (t .records) k .priority ≡ 1) → (hasOne (t .records) k && late (ownTasks t) k) ≡ false
+      other e k below (yes one) = rw (lowest-once k place (below, one) at, e, eq-eqb _ 1 (at .1)) refl
+      other e k below (no some) = rw (ne-eqb _ 1 some) refl
+
+      go : (b : Bool) → late (ownTasks t) place ≡ b → someBelow (λ k. hasOne (t .records) k && late (ownTasks t) k) (t .count) ≡ b
+      go true e = some-found (λ k. hasOne (t .records) k && late (ownTasks t) k) place (t .count) (at .0) (and-true _ _ (eq-eqb _ 1 (at .1)) e)
+      go false e = none-below (λ k. hasOne (t .records) k && late (ownTasks t) k) (t .count) (λ k below. other e k below (ℕ-discrete (recordAt (t .records) k .priority) 1))
+
+  -- and so does the answer of `response_time` for it
+  pub lowest-said : (place : ℕ) → Lowest t place → (answer : Timed) → answer ≡ timedAnswer t place → saysLate (answer .entry .outcome) ≡ lowestLate t
+  unfolding saysLate
+  lowest-said place at answer e = ap (λ (x : Timed). saysLate (x .entry .outcome)) e ∙ go (late (ownTasks t) place) refl ∙ sym (lowest-tested place at)
+    where
+      go : (b : Bool) → late (ownTasks t) place ≡ b → saysLate (timedAnswer t place .entry .outcome) ≡ b
+      go true is = ap saysLate (timed-given t place good (at .0) .1 .is-late is)
+      go false is = ap saysLate (timed-given t place good (at .0) .1 .is-on-time is)
+
+  -- where it says late, no choice passes, since the lowest task is late under each
+  pub tested-none : lowestLate t ≡ true → passingOf t ≡ []
+  unfolding passingOf passes
+  tested-none is = sift-none (passesWith t) (choicesOf (levelsOf t)) (λ choice member. fails choice (choices-sound (levelsOf t) member))
+    where
+      fails : (choice : List ℕ) → allAllowed (levelsOf t) choice ≡ true → passesWith t choice ≡ false
+      fails choice sound =
+          let allowed = allowed-exactly t good choice (allowed-length (levelsOf t) choice sound ∙ length-levels t) .0 sound in
+          let at = lowest-there in
+          let late-too = lowest-late-same t (at .0) (at .1) choice (ownChoice t) allowed (own-allowed t good) ∙ sym (lowest-tested (at .0) (at .1)) ∙ is in
+          ap not (some-found (late (tasksOf t (t .interval) choice)) (at .0) (t .count) (at .1 .0) late-too)
