@@ -17,7 +17,7 @@
  *
  * Memory and time: no heap, no state, no call of anything outside the library; FQ_STACK_BYTES bounds the stack.
  * The x86-64 code uses the SSE registers, so whoever calls it where these are not saved (a kernel, an
- * interrupt handler) saves them first. fq_judge, fq_write, fq_rewrite and fq_record take about a microsecond;
+ * interrupt handler) saves them first. fq_judge, fq_write, fq_rewrite, fq_record and fq_grant take about a microsecond;
  * fq_response, fq_slack and fq_verdict microseconds to milliseconds; fq_least_interval, fq_next and fq_list judge up to
  * 65535 intervals or 40320 choices and CAN TAKE MINUTES on a sheet of eight tasks (docs/PERFORMANCE.md). Where the
  * lowest task, of priority 1, is late, no choice passes, and fq_next and fq_list say so from that one response.
@@ -35,7 +35,7 @@ extern "C" {
 #endif
 
 /* The version of this header and library; `./desk --version` prints the same. */
-#define FQ_VERSION "1.8.0"
+#define FQ_VERSION "1.9.0"
 
 /*
  * What a refused call gives, in the order in which the rules are tried: the number of the first rule broken,
@@ -60,6 +60,10 @@ enum fq_refusal {
     FQ_STRANGE_BIT = 15,        /* a tick has a release bit above the count, or one of the seven other bits set */
     FQ_EARLY_RELEASE = 16,      /* a release sooner than its period after that task's last */
     FQ_EARLY_FAULT = 17,        /* a fault sooner than the fault interval after the last */
+    FQ_BAD_STARTS = 20,         /* a start table that breaks the rules of fq_grant, or a holder who is no user */
+    FQ_INSIDE_A_JOB = 21,       /* a lock is asked for while a started job runs */
+    FQ_BAD_REQUEST = 25,        /* a resource above 7, a length of 0 or a priority that is not among the users */
+    FQ_HELD = 22,               /* the resource asked for is held already, by anyone */
     FQ_SHORT_OUTPUT = 11        /* the lent output is shorter than what is to be written: tried last */
 };
 
@@ -81,6 +85,10 @@ enum fq_count {
     FQ_UNFINISHED,
     FQ_COUNTS
 };
+
+/* How many numbers fq_grant takes for each job in `starts`, and how many bytes in `resources`. */
+#define FQ_JOB_NUMBERS 2
+#define FQ_RESOURCES_BYTES 16
 
 /* How many numbers fq_write takes for each record: cost, backup, deadline, period, priority, fault priority. */
 #define FQ_RECORD_NUMBERS 6
@@ -178,6 +186,32 @@ int64_t fq_replay(const uint8_t *sheet, size_t len, const uint8_t *log, size_t l
  * accepted and otherwise the first tick, from 0, that differs; or minus the refusal (1 to 10, 18, 19, 14 to 17).
  */
 int64_t fq_check(const uint8_t *sheet, size_t len, const uint8_t *record, size_t record_len);
+
+/*
+ * Whether a sporadic task may have a resource without making a started job wait. No sheet plays a part.
+ *
+ * The start table: a control period and `count` jobs (0 to 8), in any order. In every period each job starts at its offset,
+ * whatever else goes on, and runs for its length. `starts` has two numbers for each job, its offset and its length; `uses` one
+ * byte for each, the resources that it uses, resource r as bit r (bit 0 is the lowest). Lengths are not 0, each job ends within
+ * the period, and no two overlap; one may start in the tick in which another ends.
+ * The resources: `resources` has the users of resources 0 to 7, a byte each with priority p as bit p - 1, and then the
+ * holders of 0 to 7, a priority or 0. A holder is one of the users.
+ * The request: the task of `priority` asks at `time` for `resource`, for `length` ticks. Times count on past the period.
+ *
+ * A resource that a started job uses is critical. Its ceiling is above all tasks; that of any other is the highest priority among
+ * its users, 0 where it has none. The request is granted exactly if the priority is above the ceiling of each resource that
+ * another task holds and, for a critical resource, the length fits into the free time: the ticks from `time` up to the next start
+ * of a job that uses the resource, in this period or the next, without those in which started jobs run. The margin is the free time
+ * less the length, negative where it does not fit, and 0 for a resource that is not critical. docs/LOCKS.md draws an example.
+ *
+ * Numbers and bytes that are not there count as 0; those past the count and past the sixteenth are ignored. A `_len` is how many
+ * numbers there are, not how many bytes they take.
+ * Answer: 1 granted, 0 not, each with the margin in margin[0]; or minus the refusal (20, 21, 25, 22, and last 11 where
+ * margin_len is 0), and then `margin` stays as it was. margin_len is how many numbers have room; only the first is written.
+ */
+int64_t fq_grant(uint32_t period, uint8_t count, const uint32_t *starts, size_t starts_len, const uint8_t *uses,
+                 size_t uses_len, const uint8_t *resources, size_t resources_len, uint8_t priority, uint64_t time,
+                 uint8_t resource, uint32_t length, int64_t *margin, size_t margin_len);
 
 #ifdef __cplusplus
 }

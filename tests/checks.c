@@ -10,7 +10,7 @@
 
 enum { MOST_REPORTS = 20 };
 
-static const char *const KINDS[] = {[CODEC] = "codec", [ANALYSIS] = "analysis", [REPLAY] = "replay"};
+static const char *const KINDS[] = {[CODEC] = "codec", [ANALYSIS] = "analysis", [REPLAY] = "replay", [LOCK] = "lock"};
 
 /* One call with both its answers, as a report of a difference shows it. */
 struct call {
@@ -20,6 +20,7 @@ struct call {
     int64_t plain;
     const struct writing *writing;
     const struct log *log;
+    const struct asking *asking;
 };
 
 /* Prints what was given to be written: count, interval, round, share and the numbers that are there, in hexadecimal. */
@@ -41,6 +42,26 @@ static void print_bytes(const char *name, const uint8_t *bytes, size_t length)
     }
 }
 
+/* Prints numbers of 32 bits in decimal. */
+static void print_numbers(const char *name, const uint32_t *numbers, size_t length)
+{
+    printf("%s", name);
+    for (size_t index = 0; index < length; index++) {
+        printf(" %" PRIu32, numbers[index]);
+    }
+}
+
+/* Prints what was asked: the start table, the resources and the request. */
+static void print_asking(const struct asking *asking)
+{
+    printf("period %" PRIu32 ", count %u", asking->period, (unsigned)asking->count);
+    print_numbers(", starts", asking->starts, asking->starts_len);
+    print_bytes(", uses", asking->uses, asking->uses_len);
+    print_bytes(", resources", asking->resources, asking->resources_len);
+    printf(", priority %u, time %" PRIu64 ", resource %u, length %" PRIu32, (unsigned)asking->priority, asking->time,
+           (unsigned)asking->resource, asking->length);
+}
+
 /* Counts one check and, where it failed, the difference, which is printed if it is one of the first. */
 static void settle(struct comparison *comparison, const struct call *call, const char *what, bool same)
 {
@@ -56,6 +77,8 @@ static void settle(struct comparison *comparison, const struct call *call, const
            call->function, what, call->library, call->plain, call->argument);
     if (call->writing != NULL) {
         print_writing(call->writing);
+    } else if (call->asking != NULL) {
+        print_asking(call->asking);
     } else {
         print_bytes("sheet", comparison->input_before + comparison->sheet_start, comparison->sheet_length);
     }
@@ -319,6 +342,47 @@ int64_t check_supplied(struct comparison *comparison, const struct log *record)
     settle_call(comparison, &call);
     settle(comparison, &call, "record", memcmp(&given, record, sizeof given) == 0);
     return call.plain;
+}
+
+/* Asks the library for a lock, with room for so many margins. */
+static int64_t grant(const struct asking *asking, int64_t *margin, size_t margin_len)
+{
+    return fq_grant(asking->period, asking->count, asking->starts, asking->starts_len, asking->uses, asking->uses_len,
+                    asking->resources, asking->resources_len, asking->priority, asking->time, asking->resource,
+                    asking->length, margin, margin_len);
+}
+
+/* Compares the answer to a request; the library gets a copy of the numbers, which must not change. The first margin is given back. */
+int64_t check_grant(struct comparison *comparison, const struct asking *asking, size_t margin_len, int64_t *margin)
+{
+    int64_t before[MARGINS_ROOM], library[MARGINS_ROOM], plain[MARGINS_ROOM];
+    struct asking given = *asking;
+    struct call call = {.function = "fq_grant", .argument = margin_len, .asking = asking};
+    random_bytes(&comparison->generator, (uint8_t *)before, sizeof before);
+    memcpy(library, before, sizeof before);
+    memcpy(plain, before, sizeof before);
+    call.library = grant(&given, library + 1, margin_len);
+    call.plain = plain_grant(asking->period, asking->count, asking->starts, asking->starts_len, asking->uses, asking->uses_len,
+                             asking->resources, asking->resources_len, asking->priority, asking->time, asking->resource,
+                             asking->length, plain + 1, margin_len);
+    settle(comparison, &call, "answer", call.library == call.plain);
+    settle(comparison, &call, "numbers", memcmp(&given, asking, sizeof given) == 0);
+    settle(comparison, &call, "margin", memcmp(library, plain, sizeof library) == 0);
+    if (call.plain < 0) {
+        settle(comparison, &call, "margin of a refused call", memcmp(library, before, sizeof before) == 0);
+    }
+    *margin = plain[1];
+    return call.plain;
+}
+
+/* Compares an answer and its margin with what is already known. */
+void check_granting(struct comparison *comparison, const struct asking *asking, int64_t answer, int64_t margin)
+{
+    int64_t found = 0;
+    struct call call = {.function = "fq_grant", .argument = 1, .plain = answer, .asking = asking};
+    call.library = grant(asking, &found, 1);
+    settle(comparison, &call, "answer", call.library == answer);
+    settle(comparison, &call, "margin", found == margin);
 }
 
 /* Puts the four bytes of an entry together, the first one highest. */

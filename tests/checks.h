@@ -5,6 +5,7 @@
 #ifndef CHECKS_H
 #define CHECKS_H
 
+#include "locks.h"
 #include "logs.h"
 #include "sheets.h"
 
@@ -17,11 +18,12 @@ enum {
     INPUT_ROOM = SHEET_ROOM + 2 * MARGIN,
     ARENA_ROOM = LENT_ROOM + 2 * MARGIN,
     COUNTS_ROOM = 16,
-    SLACKS_ROOM = 4
+    SLACKS_ROOM = 4,
+    MARGINS_ROOM = 4
 };
 
 /* The kinds of rounds. */
-enum round_kind { CODEC, ANALYSIS, REPLAY };
+enum round_kind { CODEC, ANALYSIS, REPLAY, LOCK };
 
 /* The state of a whole run: which round it is in, what it lends to the calls, and what was found so far. */
 struct comparison {
@@ -71,6 +73,10 @@ int64_t check_next(struct comparison *comparison, uint32_t after);
 int64_t check_list(struct comparison *comparison, size_t out_len);
 int64_t check_replay(struct comparison *comparison, const struct log *log, size_t counts_len);
 int64_t check_supplied(struct comparison *comparison, const struct log *record);
+int64_t check_grant(struct comparison *comparison, const struct asking *asking, size_t margin_len, int64_t *margin);
+
+/* Checks that the library's answer to a request, and its margin, are the expected ones; the plain desk is not asked. */
+void check_granting(struct comparison *comparison, const struct asking *asking, int64_t answer, int64_t margin);
 
 /* Checks that the library's step after a choice is the expected one; the plain desk is not asked again. */
 void check_step(struct comparison *comparison, uint32_t after, int64_t expected);

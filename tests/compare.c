@@ -19,6 +19,8 @@ enum {
     CODEC_SHEETS_FOR_ANALYSIS_SHEET = 20,
     /* One log is replayed, and one record checked, for so many. */
     CODEC_SHEETS_FOR_LOG = 4,
+    /* One request for a lock is asked for so many. */
+    CODEC_SHEETS_FOR_LOCK = 2,
     /* The first refusal of a log or a record, and the one after the others that only a sheet can have. */
     FIRST_OF_LOGS = 14,
     BAD_SHARE = 18,
@@ -33,11 +35,11 @@ static void print_usage(FILE *stream)
     fprintf(stream,
             "usage: compare [SEED [COUNT]]\n"
             "Runs COUNT random sheets through reading and writing, COUNT / %d through the analysis and\n"
-            "COUNT / %d logs and as many supplier's records through the replay, each through the library\n"
+            "COUNT / %d logs and as many supplier's records through the replay, and asks for COUNT / %d locks, each through the library\n"
             "and through a plain implementation, and compares the answers.\n"
             "SEED and COUNT are whole numbers; the defaults are %d and %d.\n"
             "Status: 0 no difference, 1 a difference or nothing run, 2 bad arguments.\n",
-            CODEC_SHEETS_FOR_ANALYSIS_SHEET, CODEC_SHEETS_FOR_LOG, DEFAULT_SEED, DEFAULT_COUNT);
+            CODEC_SHEETS_FOR_ANALYSIS_SHEET, CODEC_SHEETS_FOR_LOG, CODEC_SHEETS_FOR_LOCK, DEFAULT_SEED, DEFAULT_COUNT);
 }
 
 /* Reads a whole number of decimal digits only. */
@@ -69,15 +71,25 @@ static void print_tally(const struct comparison *comparison, const struct tally 
     print_answers("logs by answer of fq_replay", tally->replayed, REPLAY_JUDGEMENTS);
     print_answers("records by refusal of fq_check", tally->checked, REPLAY_JUDGEMENTS);
     printf("records accepted: %" PRIu64 ", with a tick that differs: %" PRIu64 "\n", tally->accepted, tally->differing);
+    print_answers("requests for locks by refusal of fq_grant", tally->locks, LOCK_JUDGEMENTS);
+    printf("locks granted: %" PRIu64 ", margins above 0: %" PRIu64 ", below 0: %" PRIu64 "\n", tally->granted,
+           tally->positive_margins, tally->negative_margins);
     printf("slacks with a figure: %" PRIu64 ", least intervals of none: %" PRIu64 ", listed choices: %" PRIu64 "\n",
            tally->figures, tally->least_intervals_of_none, tally->listed_choices);
     printf("lists where the lowest task is late: %" PRIu64 ", other empty lists: %" PRIu64 "\n", tally->lists_with_lowest_late,
            tally->other_empty_lists);
     printf("%" PRIu64 " codec sheets, %" PRIu64 " analysis sheets (%" PRIu64 " pass, %" PRIu64 " do not), ",
            tally->codec_sheets, tally->analysis_sheets, tally->passing, tally->late);
-    printf("%" PRIu64 " least intervals, %" PRIu64 " lists (%" PRIu64 " of eight tasks), %" PRIu64 " logs, ",
-           tally->least_intervals, tally->lists, tally->lists_of_eight, tally->logs);
+    printf("%" PRIu64 " least intervals, %" PRIu64 " lists (%" PRIu64 " of eight tasks), %" PRIu64 " logs, %" PRIu64 " requests for locks, ",
+           tally->least_intervals, tally->lists, tally->lists_of_eight, tally->logs, tally->requests);
     printf("%" PRIu64 " checks, %" PRIu64 " differences\n", comparison->checks, comparison->differences);
+}
+
+/* Whether a request for a lock of each judgement was run, and margins of both signs were found. */
+static bool every_lock_run(const struct tally *tally)
+{
+    return tally->locks[0] > tally->granted && tally->granted > 0 && tally->locks[FQ_BAD_STARTS] > 0 && tally->locks[FQ_INSIDE_A_JOB] > 0 &&
+           tally->locks[FQ_BAD_REQUEST] > 0 && tally->locks[FQ_HELD] > 0 && tally->negative_margins > 0 && tally->positive_margins > 0;
 }
 
 /* Whether at least one sheet of each kind, and a log and a record of each judgement, was run. */
@@ -91,7 +103,8 @@ static bool every_kind_run(const struct tally *tally)
     return tally->judged[0] > 0 && tally->judged[0] < tally->codec_sheets && tally->judged[BAD_SHARE] > 0 && tally->passing > 0 &&
            tally->late > 0 && tally->least_intervals > 0 && tally->lists > tally->lists_of_eight &&
            tally->lists_of_eight > 0 && tally->lists_with_lowest_late > 0 &&
-           tally->lists_with_lowest_late < tally->lists && tally->replayed[0] > 0 && tally->accepted > 0 && tally->differing > 0;
+           tally->lists_with_lowest_late < tally->lists && tally->replayed[0] > 0 && tally->accepted > 0 && tally->differing > 0 &&
+           every_lock_run(tally);
 }
 
 /* Runs all rounds, prints what was found, and gives the status of the program. */
@@ -107,6 +120,10 @@ static int run(struct comparison *comparison)
     }
     for (uint64_t round = 0; round < comparison->count / CODEC_SHEETS_FOR_LOG; round++) {
         replay_round(comparison, &tally, round);
+    }
+    lock_edge_round(comparison);
+    for (uint64_t round = 0; round < comparison->count / CODEC_SHEETS_FOR_LOCK; round++) {
+        lock_round(comparison, &tally, round);
     }
     print_tally(comparison, &tally);
     if (!every_kind_run(&tally)) {

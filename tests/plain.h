@@ -29,4 +29,8 @@ int64_t plain_check(const uint8_t *sheet, size_t len, const uint8_t *record, siz
 /* Makes each tick of a supplier's record show what ran; a record that is refused stays as it is. */
 void plain_show(const uint8_t *sheet, size_t len, uint8_t *record, size_t record_len);
 
+int64_t plain_grant(uint32_t period, uint8_t count, const uint32_t *starts, size_t starts_len, const uint8_t *uses,
+                    size_t uses_len, const uint8_t *resources, size_t resources_len, uint8_t priority, uint64_t time,
+                    uint8_t resource, uint32_t length, int64_t *margin, size_t margin_len);
+
 #endif

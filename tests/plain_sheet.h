@@ -30,7 +30,11 @@ enum refusal {
     EARLY_RELEASE = 16,
     EARLY_FAULT = 17,
     BAD_SHARE = 18,
-    SHARED_PROCESSOR = 19
+    SHARED_PROCESSOR = 19,
+    BAD_STARTS = 20,
+    INSIDE_A_JOB = 21,
+    HELD = 22,
+    BAD_REQUEST = 25
 };
 
 /* One task as its record gives it. */

@@ -1,13 +1,14 @@
 /*
  * The kinds of rounds of the comparison: codec rounds, which read, write and damage sheets, analysis rounds,
- * which ask for times, verdicts, intervals and choices, and replay rounds, which replay logs and check records.
+ * which ask for times, verdicts, intervals and choices, replay rounds, which replay logs and check records, and lock rounds,
+ * which ask for locks.
  */
 #ifndef ROUNDS_H
 #define ROUNDS_H
 
 #include "checks.h"
 
-enum { JUDGEMENTS = 19, REPLAY_JUDGEMENTS = 20 };
+enum { JUDGEMENTS = 19, REPLAY_JUDGEMENTS = 20, LOCK_JUDGEMENTS = 26 };
 
 /* What was run so far, by kind. */
 struct tally {
@@ -29,6 +30,11 @@ struct tally {
     uint64_t accepted;
     uint64_t differing;
     uint64_t checked[REPLAY_JUDGEMENTS];
+    uint64_t requests;
+    uint64_t locks[LOCK_JUDGEMENTS];
+    uint64_t granted;
+    uint64_t negative_margins;
+    uint64_t positive_margins;
 };
 
 /* Checks the least intervals at the far end, which random sheets do not reach, and sheets of every length. */
@@ -42,5 +48,11 @@ void analysis_round(struct comparison *comparison, struct tally *tally, uint64_t
 
 /* Runs one replay round. */
 void replay_round(struct comparison *comparison, struct tally *tally, uint64_t round);
+
+/* Checks locks at the far end of the numbers, where going tick by tick takes too long. */
+void lock_edge_round(struct comparison *comparison);
+
+/* Runs one lock round. */
+void lock_round(struct comparison *comparison, struct tally *tally, uint64_t round);
 
 #endif

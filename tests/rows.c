@@ -146,6 +146,51 @@ static void answer_slack(struct row *row)
     }
 }
 
+/* The jobs of a start table, offset:length:resources each with a comma between, or none: how many. */
+static uint8_t read_jobs(const char *word, uint32_t *starts, uint8_t *uses)
+{
+    uint8_t count = 0;
+    while (strcmp(word, "-") != 0) {
+        unsigned bits;
+        int used;
+        if (count == UINT8_MAX || sscanf(word, "%" SCNu32 ":%" SCNu32 ":%2x%n", &starts[2 * count], &starts[2 * count + 1], &bits, &used) != 3) {
+            fprintf(stderr, "no jobs: %s\n", word);
+            exit(2);
+        }
+        uses[count] = (uint8_t)bits;
+        count++;
+        if (word[used] != ',') {
+            break;
+        }
+        word += used + 1;
+    }
+    return count;
+}
+
+/* PERIOD JOBS USERS HOLDERS p t RESOURCE LENGTH: the refusal, whether it is granted, and the margin. */
+static void answer_locks(struct row *row)
+{
+    static struct bytes users, holders;
+    uint32_t starts[2 * UINT8_MAX];
+    uint8_t uses[UINT8_MAX], resources[16] = {0};
+    uint8_t count = read_jobs(row->word[1], starts, uses);
+    int64_t margin = 0;
+    read_bytes(row->word[2], &users);
+    read_bytes(row->word[3], &holders);
+    if (users.length != 8 || holders.length != 8) {
+        fprintf(stderr, "not eight users and holders\n");
+        exit(2);
+    }
+    memcpy(resources, users.at, 8);
+    memcpy(resources + 8, holders.at, 8);
+    int64_t answer = fq_grant((uint32_t)strtoul(row->word[0], NULL, 10), count, starts, 2 * (size_t)count, uses, count, resources,
+                              sizeof resources, (uint8_t)strtoul(row->word[4], NULL, 10), strtoull(row->word[5], NULL, 10),
+                              (uint8_t)strtoul(row->word[6], NULL, 10), (uint32_t)strtoul(row->word[7], NULL, 10), &margin, 1);
+    add_number(row, answer < 0 ? -answer : 0);
+    add_number(row, answer < 0 ? 0 : answer);
+    add_number(row, margin);
+}
+
 /* What answers the rows of a file, by the end of its name, and how many words are asked. */
 static const struct kind {
     const char *name;
@@ -156,6 +201,7 @@ static const struct kind {
     {"ask-03-second-job.txt", 1, answer_slack},
     {"ask-06-share.txt", 1, answer_slack},
     {"ask-07-record.txt", 2, answer_record},
+    {"ask-09-locks.txt", 8, answer_locks},
 };
 
 /* The kind of a file. */

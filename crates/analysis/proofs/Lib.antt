@@ -7,7 +7,6 @@ pub mod Shared
 pub mod Found
 pub mod Verdicts
 pub mod Limits
-pub mod Difference
 pub mod Easier
 pub mod Slacks
 pub mod Below

@@ -12,7 +12,7 @@ use Rattle.analysis.specs.declared.Outcome.{Outcome}
 use Rattle.analysis.specs.declared.Outcome.the-variants.{OnTime, Late}
 use Rattle.analysis.specs.Response.{isLate}
 use Rattle.analysis.specs.Answers.{outcomeOf, slackOf, entryFrom}
-use Rattle.analysis.proofs.Difference.{difference-left, difference-missing}
+use Rattle.sheet.proofs.Difference.{difference-left, difference-missing}
 
 -- an outcome and a slack beside it: no time at all, one past the deadline, one within it
 data Is (deadline time : ℕ) : Outcome → Slack → Type 0 where

@@ -5,6 +5,8 @@ pub mod Answered
 pub mod Slacked
 pub mod Replayed
 pub mod Checked
+pub mod Lent
+pub mod Locked
 pub mod SecondJob
 pub mod Written
 pub mod Chosen

@@ -1,22 +1,21 @@
 -- What each function says, in the header's words and document 01's: minus the refusal's number, beside an output that stays as it was, or the value;
 -- and when 11 and 13 are given. Assumes nothing.
 use Prim.Native.Nat.{ℕ, _+_, _*_, _<_}
-use mathlib.Core.Path.{_≡_, refl, sym, _∙_}
+use mathlib.Core.Path.{_≡_, refl, _∙_}
 use mathlib.Core.Bool.{Bool, true, false, cond}
 use mathlib.Core.List.{List, [], _∷_, _++_}
-use mathlib.Core.Logic.{_↔_}
+use mathlib.Core.Logic.{_↔_, ⊎-elim}
 use native.Mathlib.Decide.{ℕ-discrete}
 use native.Mathlib.Omega.{arith}
 use borrow.Author.Tests.{eq-eqb, ne-eqb}
 use lib.Dec.{ltb}
 use lib.IntN.{ℤ, pos, negℤ}
 use lib.ListN.{length, set, drop}
-use Rattle.sheet.specs.Places.{orElse}
 use Rattle.sheet.specs.Layout.{headerSize, sizeOf, countOf, startOf, isWhole, editionFor, tableSize, tableOf}
 use Rattle.sheet.specs.Rules.{sheetRefusal}
 use Rattle.sheet.specs.Answers.{writeRefusal, placeRefusal}
-use Rattle.sheet.proofs.Tells.{Tells, holds, fails, ltb-tells, eqb-tells}
-use Rattle.sheet.proofs.Turns.{first-of, next-of}
+use Rattle.sheet.proofs.Tells.{ltb-tells, eqb-tells}
+use Rattle.sheet.proofs.Turns.{next-of}
 use Rattle.sheet.proofs.Order.{sheet-in-order}
 use Rattle.sheet.proofs.Demands.{table-good}
 use Rattle.sheet.proofs.Refused.{tried-last, given-if, write-refused-leaves}
@@ -34,6 +33,15 @@ use Rattle.replay.specs.Machines.{machineOf}
 use Rattle.replay.specs.Shown.{matching}
 use Rattle.replay.specs.Answers.{replayAnswer, checkRefusal}
 use Rattle.fidhaqooban.specs.Answers.{writeSharedNumber, writeSharedLeft, writeNumber, writeLeft, rewriteRefusal, rewriteNumber, rewriteLeft, recordNumber, responseNumber, slackRefusal, slackNumber, slackLeft, verdictNumber, intervalNumber, firstNumber, nextRefusal, nextNumber, listingRefusal, listNumber, listLeft, replayedRefusal, replayNumber, replayLeft, checkNumber}
+use Rattle.locks.specs.declared.Starts.{Starts}
+use Rattle.locks.specs.declared.Resource.{Resource}
+use Rattle.locks.specs.declared.Request.{Request}
+use Rattle.locks.specs.declared.Granting.{Granting}
+use Rattle.locks.specs.Rules.{grantRefusal}
+use Rattle.locks.specs.Answers.{grantAnswer}
+use Rattle.locks.proofs.Order.{grant-in-order}
+use Rattle.fidhaqooban.specs.Locking.{lockRefusal, lockNumber, lockLeft}
+use Rattle.fidhaqooban.proofs.Lent.{last-11}
 
 -- asking for a place is never refused with 11
 place-not-11 : (sheet : List ℕ) (place : ℕ) → placeRefusal sheet place ≡ 11 → ⊥
@@ -105,12 +113,7 @@ module _ (sheet : List ℕ) where
   module _ (place : ℕ) (out : List ℤ) where
     pub slack-11 : (slackRefusal sheet place out ≡ 11) ↔ ((placeRefusal sheet place ≡ 0) × (length out ≡ 0))
     unfolding slackRefusal
-    slack-11 = go (ℕ-discrete (placeRefusal sheet place) 0) (eqb-tells (length out) 0)
-      where
-        go : {b : Bool} → Dec (placeRefusal sheet place ≡ 0) → Tells (length out ≡ 0) b → (orElse (placeRefusal sheet place) (cond b 11 0) ≡ 11) ↔ ((placeRefusal sheet place ≡ 0) × (length out ≡ 0))
-        go (yes z) (holds empty) = (λ e. (z, empty), λ h. next-of 11 z)
-        go (yes z) (fails some) = (λ e. absurd (omega (arith, next-of 0 z)), λ h. absurd (some (h .1)))
-        go (no z) side = (λ e. absurd (place-not-11 sheet place (sym (first-of _ _ z) ∙ e)), λ h. absurd (z (h .0)))
+    slack-11 = last-11 (placeRefusal sheet place) (place-not-11 sheet place) (eqb-tells (length out) 0)
 
     pub slack-figure : (ticks : ℤ) → slackRefusal sheet place out ≡ 0 → entryOf (ownTasks (tableOf sheet)) place .slack ≡ Figure ticks → (slackNumber sheet place out ≡ pos 1) × (slackLeft sheet place out ≡ set out 0 ticks)
     unfolding slackNumber slackLeft figuresOf figureIn
@@ -202,3 +205,20 @@ module _ (sheet log out : List ℕ) where
 pub check-said : (sheet supplied : List ℕ) → Said (checkRefusal sheet supplied) (matching (machineOf (tableOf sheet)) supplied) (checkNumber sheet supplied)
 unfolding checkNumber
 check-said sheet supplied = said _ _
+
+-- `fq_grant`: "1 granted, 0 not, minus the refusal"; the margin goes into the first place unless refused, and then the output stays as it was
+module _ (granting : Granting) (margin : List ℤ) where
+  pub lock-said : Said (lockRefusal granting margin) (cond (granting .granted) 1 0) (lockNumber granting margin)
+  unfolding lockNumber
+  lock-said = said _ _
+
+  pub lock-left : ((lockRefusal granting margin ≡ 0 → ⊥) → lockLeft granting margin ≡ margin) × (lockRefusal granting margin ≡ 0 → lockLeft granting margin ≡ set margin 0 (granting .margin))
+  unfolding lockLeft
+  lock-left = (λ broken. simp (ne-eqb (lockRefusal granting margin) 0 broken), λ fine. simp (eq-eqb (lockRefusal granting margin) 0 fine))
+
+-- "11 last, where margin_len is 0": exactly if the request is not refused and the output is empty
+pub lock-11 : (starts : Starts) (resources : List Resource) (request : Request) (margin : List ℤ)
+    → (lockRefusal (grantAnswer starts resources request) margin ≡ 11) ↔ ((grantRefusal starts resources request ≡ 0) × (length margin ≡ 0))
+unfolding lockRefusal grantAnswer
+lock-11 starts resources request margin =
+    last-11 (grantRefusal starts resources request) (λ e. ⊎-elim (λ z. omega arith) (⊎-elim (λ h. omega arith) (λ h. omega arith)) (grant-in-order starts resources request .range)) (eqb-tells (length margin) 0)

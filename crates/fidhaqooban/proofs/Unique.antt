@@ -6,6 +6,8 @@ use lib.IntN.{ℤ}
 use Rattle.sheet.specs.Rules.{sheetRefusal}
 use Rattle.sheet.proofs.Unique.{both}
 use Rattle.fidhaqooban.specs.Answers.{writeSharedNumber, writeSharedLeft, writeNumber, writeLeft, rewriteNumber, rewriteLeft, recordNumber, responseNumber, slackNumber, slackLeft, verdictNumber, intervalNumber, nextNumber, listNumber, listLeft, replayNumber, replayLeft, checkNumber}
+use Rattle.locks.specs.declared.Request.{Request}
+use Rattle.fidhaqooban.specs.Locking.{grantingOf, lockNumber, lockLeft}
 
 pub fq-judge-unique : (sheet : List ℕ) (a b : ℕ) → a ≡ sheetRefusal sheet → b ≡ sheetRefusal sheet → a ≡ b
 fq-judge-unique sheet a b = both
@@ -53,3 +55,8 @@ fq-replay-unique sheet log out a b left left′ p q = (both (p .0) (q .0), both 
 
 pub fq-check-unique : (sheet supplied : List ℕ) (a b : ℤ) → a ≡ checkNumber sheet supplied → b ≡ checkNumber sheet supplied → a ≡ b
 fq-check-unique sheet supplied a b = both
+
+pub fq-grant-unique : (period count : ℕ) (starts uses resources : List ℕ) (request : Request) (margin : List ℤ) (a b : ℤ) (left left′ : List ℤ)
+    → (a ≡ lockNumber (grantingOf period count starts uses resources request) margin) × (left ≡ lockLeft (grantingOf period count starts uses resources request) margin)
+    → (b ≡ lockNumber (grantingOf period count starts uses resources request) margin) × (left′ ≡ lockLeft (grantingOf period count starts uses resources request) margin) → (a ≡ b) × (left ≡ left′)
+fq-grant-unique period count starts uses resources request margin a b left left′ p q = (both (p .0) (q .0), both (p .1) (q .1))

@@ -3,11 +3,14 @@
 ghost use mathlib.Core.Path.{_≡_};
 ghost use Rattle.sheet.specs.Rules.{sheetRefusal};
 ghost use Rattle.fidhaqooban.specs.Answers.{writeSharedNumber, writeSharedLeft, writeNumber, writeLeft, rewriteNumber, rewriteLeft, recordNumber, responseNumber, slackNumber, slackLeft, verdictNumber, intervalNumber, nextNumber, listNumber, listLeft, replayNumber, replayLeft, checkNumber};
+ghost use Rattle.fidhaqooban.specs.Locking.{givenRequest, grantingOf, lockNumber, lockLeft};
 use analysis::Interval;
 use choices::Arrival;
 use choices::Walk;
+use locks::Request;
 use replay::Checked;
 
+mod locking;
 mod numbers;
 
 // 0 where the sheet is good, or the refusal.
@@ -203,4 +206,41 @@ pub extern "C" fn fq_check(sheet: &[u8], supplied: &[u8]) -> i64
         Checked::Accepted => numbers::answer(0, supplied.len() / 3),
         Checked::Differs(tick) => numbers::answer(0, tick as usize),
     }
+}
+
+// Whether a sporadic task may have a resource beside started jobs: 1 or 0, with the margin in the output.
+#[no_mangle]
+pub extern "C" fn fq_grant(
+    period: u32,
+    count: u8,
+    starts: &[u32],
+    uses: &[u8],
+    resources: &[u8],
+    priority: u8,
+    time: u64,
+    resource: u8,
+    length: u32,
+    margin: &mut [i64],
+) -> i64
+    ensures { λ r. ⌜ (r ≡ lockNumber (grantingOf period count (now (starts .entry)) (now (uses .entry)) (now (resources .entry)) (givenRequest priority time resource length)) (now (margin .entry))) × (now (margin .exit) ≡ lockLeft (grantingOf period count (now (starts .entry)) (now (uses .entry)) (now (resources .entry)) (givenRequest priority time resource length)) (now (margin .entry))) ⌝ }
+{
+    let request = Request {
+        priority,
+        time,
+        resource,
+        length,
+    };
+    let granting = locks::grant(
+        locking::starts(period, count, starts, uses),
+        locking::resources(resources),
+        request,
+    );
+    if granting.refusal != 0 {
+        return numbers::answer(granting.refusal, 0);
+    }
+    if margin.len() == 0 {
+        return numbers::answer(11, 0);
+    }
+    locking::put_margin(granting.margin, margin);
+    numbers::answer(0, granting.granted as usize)
 }

@@ -30,7 +30,7 @@ unfolding firstBelow
 first-agree zero same = refl
 first-agree (suc n) same = ap₂ orElse (first-agree n (less n same)) (same n (omega arith))
 
-some-agree : {f g : ℕ → Bool} (n : ℕ) → Agree n f g → someBelow f n ≡ someBelow g n
+pub some-agree : {f g : ℕ → Bool} (n : ℕ) → Agree n f g → someBelow f n ≡ someBelow g n
 unfolding someBelow
 some-agree zero same = refl
 some-agree (suc n) same = ap₂ _||_ (some-agree n (less n same)) (same n (omega arith))

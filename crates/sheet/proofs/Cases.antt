@@ -18,7 +18,7 @@ use Rattle.sheet.proofs.Turns.{next-of, first-of, none-of, first-all}
 use Rattle.sheet.proofs.Editions.{neither}
 
 -- a chain of tests that gave 0 failed at its first test, and gave 0 after it
-passed : (b : Bool) (n r : ℕ) → cond b (suc n) r ≡ 0 → (b ≡ false) × (r ≡ 0)
+pub passed : (b : Bool) (n r : ℕ) → cond b (suc n) r ≡ 0 → (b ≡ false) × (r ≡ 0)
 passed true n r e = absurd (suc-ne-zero n e)
 passed false n r e = (refl, e)
 

@@ -10,6 +10,7 @@ pub mod Order
 pub mod Judging
 pub mod Stores
 pub mod Agree
+pub mod Difference
 pub mod Return
 pub mod Demands
 pub mod Refused

@@ -1,7 +1,7 @@
 -- What a Bool test tells of a proposition: that it holds, or that it fails. Assumes nothing.
 use Prim.Native.Nat.{ℕ, zero, suc, _≤_, _<_}
-use mathlib.Core.Path.{_≡_, refl, subst}
-use mathlib.Core.Bool.{Bool, true, false, not, _&&_, _||_}
+use mathlib.Core.Path.{_≡_, refl, sym, subst}
+use mathlib.Core.Bool.{Bool, true, false, not, _&&_, _||_, true≢false}
 use mathlib.Core.Logic.{_⊎_, inl, inr, ⊎-elim}
 use native.Mathlib.Omega.{arith}
 use native.Mathlib.Nat.{eq-or-lt-of-le, le-of-suc-le-suc}
@@ -25,6 +25,29 @@ tells false yes-if no-if = fails (no-if refl)
 pub tells-iff : {P Q : Type 0} {b : Bool} → (P → Q) → (Q → P) → Tells P b → Tells Q b
 tells-iff f g (holds p) = holds (f p)
 tells-iff f g (fails n) = fails (λ q. n (g q))
+
+-- what a test tells where its value is known, its value where the proposition holds or fails, and that two tests that tell the same have the same value
+pub told : {P : Type 0} {b : Bool} → Tells P b → b ≡ true → P
+told (holds p) e = p
+told (fails n) e = absurd (true≢false (sym e))
+
+pub denied : {P : Type 0} {b : Bool} → Tells P b → b ≡ false → P → ⊥
+denied (holds p) e = absurd (true≢false e)
+denied (fails n) e = n
+
+pub shown : {P : Type 0} {b : Bool} → Tells P b → P → b ≡ true
+shown (holds p) q = refl
+shown (fails n) q = absurd (n q)
+
+pub unshown : {P : Type 0} {b : Bool} → Tells P b → (P → ⊥) → b ≡ false
+unshown (holds p) n = absurd (n p)
+unshown (fails m) n = refl
+
+pub tells-same : {P : Type 0} {a b : Bool} → Tells P a → Tells P b → a ≡ b
+tells-same (holds p) (holds q) = refl
+tells-same (holds p) (fails n) = absurd (n p)
+tells-same (fails n) (holds p) = absurd (n p)
+tells-same (fails n) (fails m) = refl
 
 -- `ltb` tells <
 pub ltb-tells : (a b : ℕ) → Tells (a < b) (ltb a b)

@@ -1,10 +1,11 @@
 -- `analysis::response::margin` meets its contract. Assumes nothing.
 use mathlib.Core.Path.{ap}
 use native.Mathlib.Omega.{arith}
+use mir.Syntax.{w32}
 use borrow.Author.Tests.{eq-eqb, ne-eqb}
 use Rattle.analysis.specs.declared.Slack.the-variants.{Figure}
 use Rattle.analysis.specs.Answers.{slackOf}
-use Rattle.analysis.proofs.Difference.{difference-fits, difference}
+use Rattle.sheet.proofs.Difference.{difference-fits, difference}
 use borrow.Author.Needs.{needs}
 use Rattle.analysis.proofs.response.margin.Statement.{statement}
 use Rattle.analysis.proofs.response.margin.Tie as tie
@@ -20,11 +21,11 @@ cast-t5 : tie.Need-cast-t5
 cast-t5 c = search needs
 
 sub-t6 : tie.Need-sub-t6
-sub-t6 c = difference-fits (c .before .args .deadline) (c .before .args .time) (omega arith) (omega arith)
+sub-t6 c = difference-fits w32 (c .before .args .deadline) (c .before .args .time) (omega arith) (omega arith)
 
 returns-2 : tie.Need-returns-2
 unfolding slackOf
-returns-2 c = rw (ne-eqb _ 0 (c .if1 .left)) (ap Figure (difference (c .before .args .deadline) (c .before .args .time) (omega arith) (omega arith)))
+returns-2 c = rw (ne-eqb _ 0 (c .if1 .left)) (ap Figure (difference w32 (c .before .args .deadline) (c .before .args .time) (omega arith) (omega arith)))
 
 pub margin-spec : {M : Type 1} → statement M
 margin-spec = tie.close (tie.spec returns cast-t4 cast-t5 sub-t6 returns-2)

@@ -1,6 +1,7 @@
 -- `report_rows::answers::difference` meets its contract. Assumes nothing.
 use native.Mathlib.Omega.{arith}
-use Rattle.analysis.proofs.Difference.{difference-fits}
+use mir.Syntax.{w32}
+use Rattle.sheet.proofs.Difference.{difference-fits}
 use borrow.Author.Needs.{needs}
 use Rattle.report_rows.proofs.answers.difference.Statement.{statement}
 use Rattle.report_rows.proofs.answers.difference.Tie as tie
@@ -12,7 +13,7 @@ cast-result-2 : tie.Need-cast-result-2
 cast-result-2 c = search needs
 
 sub-result : tie.Need-sub-result
-sub-result c = difference-fits (c .args .first) (c .args .second) (omega arith) (omega arith)
+sub-result c = difference-fits w32 (c .args .first) (c .args .second) (omega arith) (omega arith)
 
 returns : tie.Need-returns
 returns c = search needs

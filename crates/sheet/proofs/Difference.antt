@@ -1,4 +1,4 @@
--- The difference of two numbers with its sign, and as the code computes it in 32 bits. Assumes nothing.
+-- The difference of two numbers with its sign, and as code computes it in signed numbers of any width. Assumes nothing.
 use Prim.Native.Nat.{ℕ, zero, suc, _-_, _^_, _≤_, _<_}
 use mathlib.Core.Path.{_≡_, sym, ap, ap₂, _∙_, subst}
 use native.Mathlib.Decide.{decLe}
@@ -6,8 +6,8 @@ use native.Mathlib.Omega.{arith}
 use borrow.Author.Tests.{le-ltb, lt-ltb}
 use lib.IntN.{pos, negsuc, _-ℤ_}
 use lib.Signed.{mag}
-use mir.Syntax.{w32}
-use mir.Val.{SFits, toZ, ofZ}
+use mir.Syntax.{Width}
+use mir.Val.{SFits, hbits, toZ, ofZ}
 use mir.Facts.{toZ-pos, toZ-ofZ}
 
 -- it is what is left where the second is no larger
@@ -20,19 +20,19 @@ pub difference-missing : (a b : ℕ) → a < b → pos a -ℤ pos b ≡ negsuc (
 difference-missing a zero h = absurd (omega arith)
 difference-missing a (suc b) h = simp (lt-ltb a (suc b) h)
 
-module _ (a b : ℕ) (low : a < 65536) (high : b < 65536) where
-  small : mag (pos a -ℤ pos b) < 2 ^ 31
+module _ (w : Width) (a b : ℕ) (low : a < 2 ^ hbits w) (high : b < 2 ^ hbits w) where
+  small : mag (pos a -ℤ pos b) < 2 ^ hbits w
   small = go (decLe b a)
     where
-      go : Dec (b ≤ a) → mag (pos a -ℤ pos b) < 2 ^ 31
+      go : Dec (b ≤ a) → mag (pos a -ℤ pos b) < 2 ^ hbits w
       go (yes h) = rw (difference-left a b h) (omega arith)
       go (no h) = rw (difference-missing a b (omega arith)) (omega arith)
 
-  as-is : toZ w32 a -ℤ toZ w32 b ≡ pos a -ℤ pos b
-  as-is = ap₂ _-ℤ_ (toZ-pos w32 {n = a} (omega arith)) (toZ-pos w32 {n = b} (omega arith))
+  as-is : toZ w a -ℤ toZ w b ≡ pos a -ℤ pos b
+  as-is = ap₂ _-ℤ_ (toZ-pos w {n = a} low) (toZ-pos w {n = b} high)
 
-  pub difference-fits : SFits w32 (toZ w32 a -ℤ toZ w32 b)
-  difference-fits = subst (SFits w32) (sym as-is) (record { sfits = small })
+  pub difference-fits : SFits w (toZ w a -ℤ toZ w b)
+  difference-fits = subst (SFits w) (sym as-is) (record { sfits = small })
 
-  pub difference : toZ w32 (ofZ w32 (toZ w32 a -ℤ toZ w32 b)) ≡ pos a -ℤ pos b
+  pub difference : toZ w (ofZ w (toZ w a -ℤ toZ w b)) ≡ pos a -ℤ pos b
   difference = toZ-ofZ difference-fits ∙ as-is

@@ -1,0 +1,14 @@
+-- Laws that belong to no one function: loops; good tables; one job over the ticks; counting ticks; the free time; refusals; the demands.
+pub mod Turns
+pub mod Given
+pub mod Cycle
+pub mod Ticks
+pub mod Closest
+pub mod Tied
+pub mod Cases
+pub mod Answered
+pub mod Order
+pub mod Rows
+pub mod Rearranged
+pub mod Demands
+pub mod Unique

@@ -1,0 +1,19 @@
+-- `locks::bits::has_bit` meets its contract. Assumes nothing.
+use mathlib.Core.Path.{refl}
+use Rattle.locks.specs.Bits.{hasBit}
+use borrow.Author.Needs.{needs}
+use Rattle.locks.proofs.bits.has_bit.Statement.{statement}
+use Rattle.locks.proofs.bits.has_bit.Tie as tie
+
+cast-result : tie.Need-cast-result
+cast-result c = search needs
+
+shr-result : tie.Need-shr-result
+shr-result c = search needs
+
+returns : tie.Need-returns
+unfolding hasBit
+returns c = refl
+
+pub has-bit-spec : {M : Type 1} → statement M
+has-bit-spec = tie.close (tie.spec cast-result shr-result returns)
