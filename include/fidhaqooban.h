@@ -35,7 +35,7 @@ extern "C" {
 #endif
 
 /* The version of this header and library; `./desk --version` prints the same. */
-#define FQ_VERSION "1.9.0"
+#define FQ_VERSION "1.10.0"
 
 /*
  * What a refused call gives, in the order in which the rules are tried: the number of the first rule broken,

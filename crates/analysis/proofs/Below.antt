@@ -1,14 +1,15 @@
 -- What of a choice a record sees: its own fault priority, M and N. So what a choice holds past the count plays no part: two that agree below it give each record the same answer, and the same verdict. Assumes nothing.
 use Prim.Native.Nat.{ℕ, zero, suc, _+_, _-_, _*_, _<_}
 use mathlib.Core.Path.{_≡_, refl, ap, ap₂, _∙_, fun-ext}
-use mathlib.Core.Bool.{Bool, cond, not, _&&_, _||_}
+use mathlib.Core.Bool.{Bool, cond, not, _&&_}
 use mathlib.Core.List.{List}
 use native.Mathlib.Omega.{arith}
 use lib.Dec.{ltb}
 use lib.ListN.{getD, set}
 use Rattle.sheet.specs.declared.Table.{Table}
 use Rattle.sheet.specs.Layout.{recordAt}
-use Rattle.sheet.specs.Places.{someBelow, filledBelow}
+use Rattle.sheet.specs.Places.{filledBelow}
+use Rattle.sheet.proofs.Agree.{some-agree}
 use Rattle.analysis.specs.Rounding.{up}
 use Rattle.analysis.specs.Totals.{sumBelow}
 use Rattle.analysis.specs.Tasks.{tasksOf}
@@ -19,13 +20,7 @@ use Rattle.analysis.specs.Response.{timeElsewhere, timeItself, responseW
 use Rattle.analysis.specs.Answers.{entryFrom, entryOf}
 use Rattle.analysis.proofs.Totalled.{most-agree}
 
--- tests that agree at each place below n agree on some
-pub some-agree : {f g : ℕ → Bool} (n : ℕ) → ((k : ℕ) → k < n → f k ≡ g k) → someBelow f n ≡ someBelow g n
-unfolding someBelow
-some-agree zero same = refl
-some-agree (suc n) same = ap₂ _||_ (some-agree n (λ k h. same k (omega arith))) (same n (omega arith))
-
--- and values that do fill a list alike
+-- values that agree at each place below n fill a list alike
 pub filled-agree : {A : Type 0} {f g : ℕ → A} (n : ℕ) (room : List A) → ((k : ℕ) → k < n → f k ≡ g k) → filledBelow f n room ≡ filledBelow g n room
 unfolding filledBelow
 filled-agree zero room same = refl

@@ -16,11 +16,11 @@ use Rattle.sheet.specs.declared.Table.{Table}
 use Rattle.sheet.specs.Places.{orElse, filledBelow}
 use Rattle.sheet.specs.Layout.{recordAt}
 use Rattle.sheet.specs.Rules.{outside, tableRefusal}
-use Rattle.sheet.proofs.Turns.{length-filled}
+use Rattle.sheet.proofs.Turns.{none-of, length-filled}
 use Rattle.sheet.proofs.Agree.{filled-at}
 use Rattle.sheet.proofs.Cases.{within, outside-within, good-table, good-at}
 use Rattle.analysis.specs.Tasks.{faultAt, ownChoice}
-use Rattle.analysis.specs.Allowed.{levelsOf, isAllowed, allAllowed}
+use Rattle.analysis.specs.Allowed.{levelsOf, isAllowed, allAllowed, Within}
 use Rattle.analysis.specs.Answers.{choiceRefusal}
 
 -- two true tests are true together
@@ -95,11 +95,11 @@ unfolding filledBelow
 filled-past f zero room d k h = refl
 filled-past f (suc n) room d k h = getD-set-other (filledBelow f n room) n k (f n) d (λ e. omega arith) ∙ filled-past f n room d k (omega arith)
 
--- every place of zeros is zero
-pub zero-at-all : (n k : ℕ) → _≡_ {A = ℕ} (getD (replicate n 0) k 0) 0
-zero-at-all zero k = refl
-zero-at-all (suc n) zero = refl
-zero-at-all (suc n) (suc k) = zero-at-all n k
+-- every place of a list of one value has it, and so has every place past it
+pub alike-at : {A : Type 0} (d : A) (n k : ℕ) → getD (replicate n d) k d ≡ d
+alike-at d zero k = refl
+alike-at d (suc n) zero = refl
+alike-at d (suc n) (suc k) = alike-at d n k
 
 -- the levels of a table
 module _ (t : Table) where
@@ -116,11 +116,7 @@ module _ (t : Table) where
   -- and past it 0
   pub level-past : (place : ℕ) → t .count ≤ place → getD (levelsOf t) place 0 ≡ 0
   unfolding levelsOf
-  level-past place past = filled-past (λ k. recordAt (t .records) k .priority) (t .count) (replicate 8 0) 0 place past ∙ zero-at-all 8 place
-
--- "one fault priority for each record, 1 to its p"
-abbrev pub Within : Table → List ℕ → Type 0
-Within t choice = (place : ℕ) → place < t .count → (1 ≤ getD choice place 0) × (getD choice place 0 ≤ recordAt (t .records) place .priority)
+  level-past place past = filled-past (λ k. recordAt (t .records) k .priority) (t .count) (replicate 8 0) 0 place past ∙ alike-at 0 8 place
 
 -- a choice of a table: no "entry outside 1 to that record's p", and no "nonzero entry past the count"
 pub record Allowed (t : Table) (choice : List ℕ) : Type 0 where
@@ -147,6 +143,17 @@ allowed-exactly t good choice eight = (
     at place w (yes below) = subst (λ (p : ℕ). isAllowed p (getD choice place 0) ≡ true) (sym (level place below)) (allowed-for _ _ (some place below) .1 (w .each place below))
     at place w (no over) = subst (λ (p : ℕ). isAllowed p (getD choice place 0) ≡ true) (sym (level-past t place (omega arith))) (allowed-past _ .1 (w .past place (omega arith)))
 
+-- a choice that is not refused is one of a good table
+pub choice-good : (t : Table) (choice : List ℕ) → length choice ≡ 8 → choiceRefusal t choice ≡ 0 → (tableRefusal t ≡ 0) × Within t choice
+unfolding choiceRefusal
+choice-good t choice eight e =
+    let both = none-of (tableRefusal t) (cond (allAllowed (levelsOf t) choice) 0 13) e in
+    (both .0, allowed-exactly t (both .0) choice eight .0 (kept (allAllowed (levelsOf t) choice) (both .1)) .each)
+  where
+    kept : (b : Bool) → _≡_ {A = ℕ} (cond b 0 13) 0 → b ≡ true
+    kept true z = refl
+    kept false z = absurd (suc-ne-zero 12 z)
+
 -- the table's own fault priorities
 module _ (t : Table) where
   -- each stands at its place
@@ -161,7 +168,7 @@ module _ (t : Table) where
     where
       go : Dec (place < 8) → getD (filledBelow (faultAt t) 8 (replicate 8 0)) place 0 ≡ 0
       go (yes below) = filled-at (faultAt t) 8 (replicate 8 0) 0 (omega arith) place below ∙ simp (le-ltb place (t .count) past)
-      go (no over) = filled-past (faultAt t) 8 (replicate 8 0) 0 place (omega arith) ∙ zero-at-all 8 place
+      go (no over) = filled-past (faultAt t) 8 (replicate 8 0) 0 place (omega arith) ∙ alike-at 0 8 place
 
   -- there are eight
   pub length-own : length (ownChoice t) ≡ 8

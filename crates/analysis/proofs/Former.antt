@@ -11,6 +11,7 @@ use borrow.Author.Tests.{eq-eqb, ne-eqb}
 use lib.Dec.{eqb}
 use lib.ListN.{getD, replicate}
 use Rattle.sheet.specs.declared.Table.{Table}
+use Rattle.sheet.proofs.Agree.{some-agree}
 use Rattle.sheet.specs.Layout.{recordAt}
 use Rattle.sheet.specs.Places.{someBelow, filledBelow}
 use Rattle.sheet.specs.Rules.{tableRefusal}
@@ -23,7 +24,7 @@ use Rattle.analysis.specs.Response.{responseWithin, responseTime, late, 
 use Rattle.analysis.specs.Answers.{entryOf, noEntry, choiceRefusal, assessmentOf, choiceAssessment, ownAssessment}
 use Rattle.analysis.proofs.Limits.{response-cut, late-cut, cut-on-time}
 use Rattle.analysis.proofs.Choice.{own-at, own-refusal}
-use Rattle.analysis.proofs.Below.{some-agree, filled-agree, entry-same, passes-same}
+use Rattle.analysis.proofs.Below.{filled-agree, entry-same, passes-same}
 
 -- document 01: "A task is late if either time [..] has no value within D."
 unfoldable pub formerTime : Tasks → ℕ → ℕ

@@ -1,6 +1,7 @@
 -- Laws that belong to no one function.
 pub mod Rounding
 pub mod Totalled
+pub mod Gathered
 pub mod Climbing
 pub mod Tied
 pub mod Shared
@@ -14,6 +15,8 @@ pub mod Former
 pub mod Stages
 pub mod Choice
 pub mod Lowest
+pub mod Reordered
+pub mod Placing
 pub mod EachTick
 pub mod Demands
 pub mod Refused

@@ -11,8 +11,8 @@ use Rattle.sheet.specs.Layout.{recordAt}
 use Rattle.analysis.specs.Tasks.{tasksOf}
 use Rattle.analysis.specs.Backups.{everyone, others, backupOf, largestBackup, backupElsewhere, backupFromFault}
 use Rattle.analysis.specs.Response.{responseWithin}
+use Rattle.analysis.specs.Allowed.{Within}
 use Rattle.analysis.proofs.Totalled.{most-agree}
-use Rattle.analysis.proofs.Choice.{Within}
 use Rattle.analysis.proofs.Below.{response-alike}
 
 module _ (t : Table) (interval : ℕ) (c d : List ℕ) (first : Within t c) (second : Within t d) where

@@ -46,6 +46,10 @@ module _ (a b : ℕ) (some : 1 ≤ b) where
   unfolding up
   up-some h = le-div-iff-mul-le some .1 (rw (one-mul b) (omega arith))
 
+-- a length of 1 has one
+pub up-one : (b : ℕ) → 1 ≤ b → up 1 b ≡ 1
+up-one b some = omega (arith, up-small 1 b some, up-some 1 b some (omega arith))
+
 -- worked values: nothing, the divisor itself, one below, at and above a multiple, by 1, and both at 65,535
 up-worked : (up 0 7 ≡ 0) × (up 1 7 ≡ 1) × (up 6 7 ≡ 1) × (up 7 7 ≡ 1) × (up 8 7 ≡ 2) × (up 13 7 ≡ 2) × (up 14 7 ≡ 2) × (up 15 7 ≡ 3) × (up 5 1 ≡ 5) × (up 65535 1 ≡ 65535) × (up 65535 65535 ≡ 1) × (up 65534 65535 ≡ 1) × (up 65535 65534 ≡ 2)
 unfolding up
@@ -54,7 +58,3 @@ up-worked = (refl, refl, refl, refl, refl, refl, refl, refl, refl, refl, refl, r
 -- a product of two numbers of 16 bits
 pub wide-product : {a b : ℕ} → a < 65536 → b < 65536 → a * b ≤ 4294836225
 wide-product ha hb = mul-le-mul (le-of-suc-le-suc ha) (le-of-suc-le-suc hb)
-
--- and with one more of the first
-pub wider-product : {a b : ℕ} → a < 65536 → b < 65536 → (1 + a) * b ≤ 4294901760
-wider-product {a} ha hb = let more : 1 + a ≤ 65536 = omega arith in mul-le-mul more (le-of-suc-le-suc hb)

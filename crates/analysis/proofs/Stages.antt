@@ -5,7 +5,7 @@ use mathlib.Core.Bool.{Bool, true, false, cond, not, _&&_, _||_}
 use native.Mathlib.Nat.{le-refl, le-of-eq, mul-le-mul-right, mul-comm, mul-sub}
 use native.Mathlib.Decide.{ℕ-discrete, decLt}
 use native.Mathlib.Omega.{arith}
-use borrow.Author.Tests.{eq-eqb, ne-eqb, le-ltb}
+use borrow.Author.Tests.{eq-eqb, ne-eqb, lt-ltb, le-ltb}
 use lib.Dec.{eqb, ltb}
 use Rattle.analysis.specs.Rounding.{up}
 use Rattle.analysis.specs.Totals.{sumBelow}
@@ -17,8 +17,15 @@ use Rattle.analysis.specs.Response.{timeElsewhere, timeItself, responseW
 use Rattle.analysis.proofs.Rounding.{up-rises, up-some}
 use Rattle.analysis.proofs.Totalled.{sum-agree, sum-rises}
 use Rattle.analysis.proofs.Climbing.{Short, Least, least-says, least-none, least-agree, least-later}
-use Rattle.analysis.proofs.Tied.{none-between}
 use Rattle.analysis.proofs.Shared.{unshared}
+
+-- no priority is above a level and below it
+none-between : (level p : ℕ) → (ltb level p && ltb p level) ≡ false
+none-between level p = go (decLt level p)
+  where
+    go : Dec (level < p) → (ltb level p && ltb p level) ≡ false
+    go (yes h) = simp (lt-ltb level p h, le-ltb p level (omega arith))
+    go (no h) = simp (le-ltb level p (omega arith))
 
 -- "K is the largest B among all records, i included, with q ≥ p of i, or 0."
 unfoldable pub backupAfter : Tasks → ℕ → ℕ

@@ -1,105 +1,158 @@
--- The one demand that the code computes, tied to the two equations; and it rises with the length. Assumes nothing.
-use Prim.Native.Nat.{ℕ, zero, suc, _+_, _-_, _*_, _≤_, _<_, max}
-use mathlib.Core.Path.{_≡_, refl, _∙_}
-use mathlib.Core.Bool.{Bool, true, false, cond, _&&_}
-use native.Mathlib.Nat.{le-refl, add-le-add, mul-le-mul-right, suc-mul}
-use native.Mathlib.Decide.{decLt}
+-- The one demand that the code computes over records held from the highest priority to the lowest, tied to the two equations; and it rises with the length. Assumes nothing.
+use Prim.Native.Nat.{ℕ, zero, suc, _+_, _-_, _*_, _≤_, _<_}
+use mathlib.Core.Path.{_≡_, refl, sym, ap, _∙_}
+use mathlib.Core.Bool.{true, false, cond, not, _&&_}
+use mathlib.Core.List.{List}
+use native.Mathlib.Nat.{add-le-add, mul-le-mul-right, suc-mul}
+use native.Mathlib.Decide.{ℕ-discrete}
 use native.Mathlib.Omega.{arith}
-use borrow.Author.Tests.{eq-eqb, ne-eqb, lt-ltb, le-ltb}
-use lib.Dec.{ltb}
+use borrow.Author.Tests.{eq-eqb, ne-eqb, lt-ltb, le-ltb, lt-leb}
+use lib.Dec.{eqb, ltb}
+use lib.ListN.{getD}
 use Rattle.sheet.specs.declared.Record.{Record}
+use Rattle.sheet.specs.declared.Table.{Table}
+use Rattle.sheet.specs.Layout.{recordAt}
 use Rattle.analysis.specs.declared.Demand.{Demand}
 use Rattle.analysis.specs.Rounding.{up}
-use Rattle.analysis.specs.Tasks.{Tasks}
+use Rattle.analysis.specs.Totals.{sumBelow}
+use Rattle.analysis.specs.Tasks.{Tasks, tasksOf}
 use Rattle.analysis.specs.Backups.{others, everyone, backupOf, largestBackup, backupElsewhere, backupFromFault}
 use Rattle.analysis.specs.Equations.{supplierOf, isBetween, struckElsewhere, struckItself}
-use Rattle.analysis.specs.Demand.{runOf, loadOf, demandOf}
-use Rattle.analysis.proofs.Rounding.{up-rises, up-some}
-use Rattle.analysis.proofs.Totalled.{sum-agree, sum-plus, most-apart, sum-rises}
+use Rattle.analysis.specs.Demand.{Sorted, Chosen, largestBefore, runsOf, loadOf, demandOf}
+use Rattle.analysis.proofs.Rounding.{up-rises, up-some, up-one}
+use Rattle.analysis.proofs.Totalled.{sum-plus, sum-rises, sum-from}
+use Rattle.analysis.proofs.Gathered.{sum-until, most-until}
 
--- what a record runs in two lengths, by two tests
-cond-rises : (a b : Bool) {x y v w : ℕ} → x ≤ v → y ≤ w → cond a x (cond b y 0) ≤ cond a v (cond b w 0)
-cond-rises true b p q = p
-cond-rises false true p q = q
-cond-rises false false p q = le-refl 0
-
--- the run of one record rises with the length
-run-rises : (r : Record) (level low : ℕ) {a b : ℕ} → a ≤ b → runOf r level low a ≤ runOf r level low b
-unfolding runOf
-run-rises r level low h =
-    let more = up-rises (r .period) h in
-    cond-rises (ltb level (r .priority)) (ltb low (r .priority) && ltb (r .priority) level) (mul-le-mul-right (r .cost) more) (mul-le-mul-right (r .cost) (omega arith))
+-- the demand rises with the length
+runs-rise : (s : Tasks) (from until : ℕ) {a b : ℕ} → a ≤ b → runsOf s from until a ≤ runsOf s from until b
+unfolding runsOf
+runs-rise s from until h = sum-rises (until - from) (λ k below. mul-le-mul-right (s .at (from + k) .cost) (up-rises (s .at (from + k) .period) h))
 
 load-rises : (s : Tasks) (d : Demand) {a b : ℕ} → a ≤ b → loadOf s d a ≤ loadOf s d b
 unfolding loadOf supplierOf
 load-rises s d h =
-    add-le-add (add-le-add (sum-rises (s .count) (λ k below. run-rises (s .at k) (d .level) (d .low) h)) (mul-le-mul-right (d .backup) (up-rises (s .interval) h)))
+    add-le-add (add-le-add (add-le-add (runs-rise s 0 (d .rank) h) (runs-rise s (d .rank + 1) (d .until) h)) (mul-le-mul-right (d .backup) (up-rises (s .interval) h)))
     (mul-le-mul-right (s .round - s .share) (up-rises (s .round) h))
 
 pub demand-rises : (s : Tasks) (d : Demand) (a b : ℕ) → a ≤ b → demandOf s d a ≤ demandOf s d b
 unfolding demandOf
 demand-rises s d a b h = omega (arith, load-rises s d h)
 
--- no priority is above a level and below it
-pub none-between : (level p : ℕ) → (ltb level p && ltb p level) ≡ false
-none-between level p = go (decLt level p)
-  where
-    go : Dec (level < p) → (ltb level p && ltb p level) ≡ false
-    go (yes h) = simp (lt-ltb level p h, le-ltb p level (omega arith))
-    go (no h) = simp (le-ltb level p (omega arith))
+-- no record stands before the first rank
+no-runs : (s : Tasks) (i L : ℕ) → runsOf s (i + 1) 0 L ≡ 0
+unfolding runsOf sumBelow
+no-runs s i L =
+    let none : 0 - (i + 1) ≡ 0 = omega arith in
+    rw none refl
 
--- with the levels alike a record runs above the level only
-alike-run : (r : Record) (level L : ℕ) → runOf r level level L ≡ cond (ltb level (r .priority)) (up L (r .period) * r .cost) 0
-unfolding runOf
-alike-run r level L = simp (none-between level (r .priority))
+-- a backup that is not meant brings nothing
+unmeant : (r : Record) (q level : ℕ) → backupOf r false q level ≡ 0
+unfolding backupOf
+unmeant r q level = refl
 
--- a record runs above the level or between the two, and not both
-apart-run : (r : Record) (level low L : ℕ)
-    → runOf r level low L ≡ cond (ltb level (r .priority)) (up L (r .period) * r .cost) 0 + cond (ltb low (r .priority) && ltb (r .priority) level) ((1 + up L (r .period)) * r .cost) 0
-unfolding runOf
-apart-run r level low L = go (decLt level (r .priority))
-  where
-    both : (a : Bool) → (a && false) ≡ false
-    both true = refl
-    both false = refl
+-- the first fault's backup is paid
+first-paid : (u n : ℕ) → 1 ≤ u → u * n ≡ (u - 1) * n + n
+first-paid zero n h = absurd (omega arith)
+first-paid (suc u) n h =
+    let rest : suc u - 1 ≡ u = omega arith in
+    rw rest (suc-mul u n)
 
-    go : Dec (level < r .priority) → cond (ltb level (r .priority)) (up L (r .period) * r .cost) (cond (ltb low (r .priority) && ltb (r .priority) level) ((1 + up L (r .period)) * r .cost) 0)
-        ≡ cond (ltb level (r .priority)) (up L (r .period) * r .cost) 0 + cond (ltb low (r .priority) && ltb (r .priority) level) ((1 + up L (r .period)) * r .cost) 0
-    go (yes h) = simp (lt-ltb level (r .priority) h, le-ltb (r .priority) level (omega arith), both (ltb low (r .priority))) (omega arith)
-    go (no h) = simp (le-ltb level (r .priority) (omega arith)) (omega arith)
+-- the record at a rank of a table held in order, with a choice's fault priorities
+module _ (t : Table) (interval : ℕ) (faults : List ℕ) (sorted : Sorted t) (chosen : Chosen t faults) (i : ℕ) (low : i < t .count) where
+  abbrev tasks : Tasks
+  tasks = tasksOf t interval faults
 
--- the demands that stand for the equations
-abbrev pub demandElsewhere : Tasks → ℕ → Demand
-demandElsewhere s i = record { base = s .at i .cost; level = s .at i .priority; low = s .at i .priority; backup = backupElsewhere s i; paid = 0 }
+  abbrev priority : ℕ → ℕ
+  priority k = recordAt (t .records) k .priority
 
-abbrev pub demandItself : Tasks → ℕ → Demand
-demandItself s i = record { base = s .at i .cost + s .at i .backup; level = s .at i .priority; low = s .fault i; backup = backupFromFault s i; paid = backupFromFault s i }
+  abbrev run : ℕ → ℕ → ℕ
+  run L k = up L (recordAt (t .records) k .period) * recordAt (t .records) k .cost
 
--- the equation of a task struck elsewhere
-pub elsewhere-tied : (s : Tasks) (i L : ℕ) → demandOf s (demandElsewhere s i) L ≡ struckElsewhere s i L
-unfolding demandOf loadOf struckElsewhere
-elsewhere-tied s i L = omega (arith, sum-agree (s .count) (λ k below. alike-run (s .at k) (s .at i .priority) L))
+  -- the records above its fault priority are those before this rank
+  abbrev pub last : ℕ
+  last = t .count - getD faults i 0
 
--- the equation of a task struck itself, from a length of 1 on
-pub itself-tied : (s : Tasks) (i L : ℕ) → 1 ≤ s .interval → 1 ≤ L → demandOf s (demandItself s i) L ≡ struckItself s i L
-unfolding demandOf loadOf struckItself isBetween
-itself-tied s i L some long =
-    let runs = sum-agree (s .count) (λ k below. apart-run (s .at k) (s .at i .priority) (s .fault i) L) ∙ sum-plus above between (s .count) in
-    omega (arith, runs, first-paid (up L (s .interval)) (backupFromFault s i) (up-some L (s .interval) some long))
-  where
-    above : ℕ → ℕ
-    above k = cond (ltb (s .at i .priority) (s .at k .priority)) (up L (s .at k .period) * s .at k .cost) 0
+  -- "with a priority above p": those before it
+  above-tied : (L : ℕ) → sumBelow (λ k. cond (ltb (priority i) (priority k)) (run L k) 0) (t .count) ≡ runsOf tasks 0 i L
+  unfolding runsOf
+  above-tied L =
+      let here = sorted .priority i low in
+      sum-until f f i (t .count) (omega arith) (λ k before. refl) (λ k after below. rw (le-ltb (priority i) (priority k) (omega (arith, sorted .priority k below))) refl)
+      ∙ sum-from f (run L) 0 i (λ k none below. absurd (omega arith)) (λ k after before. rw (lt-ltb (priority i) (priority k) (omega (arith, sorted .priority k (omega arith)))) refl)
+    where
+      f : ℕ → ℕ
+      f k = cond (ltb (priority i) (priority k)) (run L k) 0
 
-    between : ℕ → ℕ
-    between k = cond (ltb (s .fault i) (s .at k .priority) && ltb (s .at k .priority) (s .at i .priority)) ((1 + up L (s .at k .period)) * s .at k .cost) 0
+  -- "above q and below p": those after it and before the last, each as often as L has periods and once more
+  once-more : (L k : ℕ) → k < t .count → (1 + up L (recordAt (t .records) k .period)) * recordAt (t .records) k .cost ≡ run L k + run 1 k
+  once-more L k below = rw (up-one (recordAt (t .records) k .period) (sorted .period k below)) (omega arith)
 
-    first-paid : (u n : ℕ) → 1 ≤ u → u * n ≡ (u - 1) * n + n
-    first-paid zero n h = absurd (omega arith)
-    first-paid (suc u) n h =
-        let rest : suc u - 1 ≡ u = omega arith in
-        rw rest (suc-mul u n)
+  between-tied : (L : ℕ) → sumBelow (λ k. cond (isBetween tasks i k) ((1 + up L (recordAt (t .records) k .period)) * recordAt (t .records) k .cost) 0) (t .count) ≡ runsOf tasks (i + 1) last L + runsOf tasks (i + 1) last 1
+  unfolding runsOf isBetween
+  between-tied L =
+      let here = sorted .priority i low in
+      let fault = chosen i low in
+      sum-until f f last (t .count) (omega arith) (λ k before. refl) (λ k after below. rw (le-ltb (getD faults i 0) (priority k) (omega (arith, sorted .priority k below))) refl)
+      ∙ sum-from f (λ k. run L k + run 1 k) (i + 1) last
+      (λ k before below. rw (lt-ltb (getD faults i 0) (priority k) (omega (arith, sorted .priority k (omega arith))), le-ltb (priority k) (priority i) (omega (arith, sorted .priority k (omega arith)))) refl)
+      (λ k after below. rw (lt-ltb (getD faults i 0) (priority k) (omega (arith, sorted .priority k (omega arith))), lt-ltb (priority k) (priority i) (omega (arith, sorted .priority k (omega arith)))) (once-more L k (omega arith)))
+      ∙ sum-plus (λ k. run L (i + 1 + k)) (λ k. run 1 (i + 1 + k)) (last - (i + 1))
+    where
+      f : ℕ → ℕ
+      f k = cond (ltb (getD faults i 0) (priority k) && ltb (priority k) (priority i)) ((1 + up L (recordAt (t .records) k .period)) * recordAt (t .records) k .cost) 0
 
--- the record at a place and the others are all records
-pub own-and-others : (s : Tasks) (i level : ℕ) → i < s .count → max (largestBackup s (others i) level) (backupOf (s .at i) true (s .fault i) level) ≡ largestBackup s everyone level
-unfolding largestBackup others everyone backupOf
-own-and-others s i level below = most-apart i (s .count) below (rw (eq-eqb i i refl) refl) (λ k h apart. rw (ne-eqb k i apart) refl)
+  -- a backup that runs below the level brings nothing
+  too-low : (k level : ℕ) → getD faults k 0 < level → backupOf (recordAt (t .records) k) true (getD faults k 0) level ≡ 0
+  unfolding backupOf
+  too-low k level h = simp (lt-leb level (getD faults k 0) h)
+
+  -- M is the largest of those before it
+  elsewhere-backup : largestBefore tasks i (priority i) ≡ backupElsewhere tasks i
+  unfolding largestBefore backupElsewhere largestBackup others
+  elsewhere-backup =
+      sym
+      (most-until (λ k. backupOf (recordAt (t .records) k) (not (eqb k i)) (getD faults k 0) (priority i)) (λ k. backupOf (recordAt (t .records) k) true (getD faults k 0) (priority i)) i (t .count) (omega arith)
+      (λ k before. rw (ne-eqb k i (λ e. omega arith)) refl) (λ k after below. go k after below (ℕ-discrete k i)))
+    where
+      go : (k : ℕ) → i ≤ k → k < t .count → Dec (k ≡ i) → backupOf (recordAt (t .records) k) (not (eqb k i)) (getD faults k 0) (priority i) ≡ 0
+      go k after below (yes e) = rw (eq-eqb k i e) (unmeant (recordAt (t .records) k) (getD faults k 0) (priority i))
+      go k after below (no e) = rw (ne-eqb k i e) (too-low k (priority i) (omega (arith, sorted .priority i low, chosen k below .1)))
+
+  -- N of those before the last and one more
+  itself-backup : largestBefore tasks (last + 1) (getD faults i 0) ≡ backupFromFault tasks i
+  unfolding largestBefore backupFromFault largestBackup everyone
+  itself-backup =
+      let fault = chosen i low in
+      sym
+      (most-until (λ k. backupOf (recordAt (t .records) k) true (getD faults k 0) (getD faults i 0)) (λ k. backupOf (recordAt (t .records) k) true (getD faults k 0) (getD faults i 0)) (last + 1) (t .count) (omega arith)
+      (λ k before. refl) (λ k after below. too-low k (getD faults i 0) (omega (arith, chosen k below .1))))
+
+  -- the demands that stand for the equations
+  abbrev pub demandElsewhere : Demand
+  demandElsewhere = record { base = recordAt (t .records) i .cost; rank = i; until = 0; backup = largestBefore tasks i (priority i); paid = 0 }
+
+  abbrev pub demandItself : Demand
+  demandItself =
+      record {
+        base = recordAt (t .records) i .cost + recordAt (t .records) i .backup + runsOf tasks (i + 1) last 1;
+        rank = i;
+        until = last;
+        backup = largestBefore tasks (last + 1) (getD faults i 0);
+        paid = largestBefore tasks (last + 1) (getD faults i 0);
+      }
+
+  -- the equation of a task struck elsewhere
+  pub elsewhere-tied : (L : ℕ) → demandOf tasks demandElsewhere L ≡ struckElsewhere tasks i L
+  unfolding demandOf loadOf struckElsewhere
+  elsewhere-tied L = omega (arith, above-tied L, no-runs tasks i L, ap (λ (m : ℕ). up L interval * m) elsewhere-backup)
+
+  -- the equation of a task struck itself, from a length of 1 on
+  pub itself-tied : (L : ℕ) → 1 ≤ interval → 1 ≤ L → demandOf tasks demandItself L ≡ struckItself tasks i L
+  unfolding demandOf loadOf struckItself
+  itself-tied L some long =
+      omega (arith, above-tied L, between-tied L, itself-backup, first-paid (up L interval) (largestBefore tasks (last + 1) (getD faults i 0)) (up-some L interval some long), ap (λ (m : ℕ). (up L interval - 1) * m) itself-backup)
+
+  -- which asks its base of every length
+  pub itself-base : (L : ℕ) → recordAt (t .records) i .cost + recordAt (t .records) i .backup + runsOf tasks (i + 1) last 1 ≤ struckItself tasks i L
+  unfolding struckItself
+  itself-base L = omega (arith, between-tied L)

@@ -1,9 +1,10 @@
 -- Sums and largest values over the places below a count, for every count. Assumes nothing.
-use Prim.Native.Nat.{ℕ, zero, suc, _+_, _≤_, _<_, max}
-use mathlib.Core.Path.{_≡_, refl, ap, ap₂}
+use Prim.Native.Nat.{ℕ, zero, suc, _+_, _-_, _≤_, _<_, max}
+use mathlib.Core.Path.{_≡_, refl, sym, ap, ap₂, _∙_}
 use mathlib.Core.Logic.{⊎-elim}
 use native.Mathlib.Nat.{le-refl, add-le-add, eq-or-lt-of-le, le-of-suc-le-suc, not-suc-le-zero}
 use native.Mathlib.Numerals.{add-one}
+use native.Mathlib.Decide.{decLt}
 use native.Mathlib.Omega.{arith}
 use Rattle.analysis.specs.Totals.{sumBelow, mostBelow}
 
@@ -49,11 +50,19 @@ unfolding mostBelow
 most-part f zero k below = absurd (not-suc-le-zero below)
 most-part f (suc n) k below = ⊎-elim (λ e. omega (arith, ap f e)) (λ lt. omega (arith, most-part f n k lt)) (eq-or-lt-of-le (le-of-suc-le-suc below))
 
--- the largest is that of one place and of the others, where f is g but at that place, and g is 0 there
-pub most-apart : {f g : ℕ → ℕ} (i n : ℕ) → i < n → g i ≡ 0 → ((k : ℕ) → k < n → (k ≡ i → ⊥) → f k ≡ g k) → max (mostBelow g n) (f i) ≡ mostBelow f n
-unfolding mostBelow
-most-apart i zero below out same = omega arith
-most-apart {f} {g} i (suc n) below out same =
-    ⊎-elim (λ e. omega (arith, most-agree {f = f} {g = g} n (λ k h. same k (omega arith) (λ z. omega arith)), ap f e, ap g e))
-    (λ h. omega (arith, most-apart {f = f} {g = g} i n h out (λ k b. same k (omega arith)), same n (omega arith) (λ z. omega arith)))
-    (eq-or-lt-of-le (le-of-suc-le-suc below))
+-- the places before one bring nothing
+pub sum-from : (f g : ℕ → ℕ) (a n : ℕ) → ((k : ℕ) → k < a → k < n → f k ≡ 0) → ((k : ℕ) → a ≤ k → k < n → f k ≡ g k) → sumBelow f n ≡ sumBelow (λ k. g (a + k)) (n - a)
+unfolding sumBelow
+sum-from f g a zero before after =
+    let none : zero - a ≡ 0 = omega arith in
+    rw none refl
+sum-from f g a (suc n) before after = go (decLt n a) (sum-from f g a n (λ k l h. before k l (omega arith)) (λ k l h. after k l (omega arith)))
+  where
+    go : Dec (n < a) → sumBelow f n ≡ sumBelow (λ k. g (a + k)) (n - a) → sumBelow f n + f n ≡ sumBelow (λ k. g (a + k)) (suc n - a)
+    go (yes low) rest =
+        let none : suc n - a ≡ n - a = omega arith in
+        rw none (omega (arith, rest, before n low (omega arith)))
+    go (no high) rest =
+        let one : suc n - a ≡ suc (n - a) = omega arith in
+        let here : a + (n - a) ≡ n = omega arith in
+        rw one (ap₂ _+_ rest (after n (omega arith) (omega arith) ∙ ap g (sym here)))

@@ -1,7 +1,7 @@
 -- The response and the verdict case by case. Assumes nothing.
 use Prim.Native.Nat.{ℕ, zero, suc, _+_, _<_, max}
 use mathlib.Core.Path.{_≡_, refl, sym, ap, ap₂, _∙_}
-use mathlib.Core.Bool.{Bool, true, false, cond, _||_, false≢true}
+use mathlib.Core.Bool.{Bool, true, false, cond, _||_}
 use mathlib.Core.Logic.{_⊎_, ⊎-elim}
 use native.Mathlib.Nat.{eq-or-lt-of-le, le-of-suc-le-suc, not-suc-le-zero}
 use native.Mathlib.Omega.{arith}
@@ -60,16 +60,6 @@ some-found test k (suc n) below here = go (some-found test k n) (eq-or-lt-of-le 
     go earlier side =
         ⊎-elim (λ e. ap (λ (b : Bool). someBelow test n || b) (ap test (sym e) ∙ here) ∙ last (someBelow test n))
         (λ lt. ap (λ (b : Bool). b || test n) (earlier lt here)) side
-
--- where a test holds at some place, there is one
-pub some-where : (test : ℕ → Bool) (n : ℕ) → someBelow test n ≡ true → (k : ℕ) × (k < n) × (test k ≡ true)
-unfolding someBelow
-some-where test zero e = absurd (false≢true e)
-some-where test (suc n) e = go (someBelow test n) (some-where test n) e
-  where
-    go : (b : Bool) → (b ≡ true → (k : ℕ) × (k < n) × (test k ≡ true)) → (b || test n) ≡ true → (k : ℕ) × (k < suc n) × (test k ≡ true)
-    go true earlier said = let at = earlier refl in (at .0, omega arith, at .2)
-    go false earlier said = (n, omega arith, said)
 
 -- a test that holds at no place below n
 pub none-below : (test : ℕ → Bool) (n : ℕ) → ((k : ℕ) → k < n → test k ≡ false) → someBelow test n ≡ false

@@ -1,9 +1,9 @@
 -- Which choices of fault priorities a table has: "A choice is one fault priority for each record, 1 to its p", in eight entries, zero past the count.
-use Prim.Native.Nat.{ℕ}
+use Prim.Native.Nat.{ℕ, _≤_, _<_}
 use mathlib.Core.Bool.{Bool, true, false, cond, not, _&&_}
 use mathlib.Core.List.{List, [], _∷_}
 use lib.Dec.{eqb}
-use lib.ListN.{replicate}
+use lib.ListN.{getD, replicate}
 use Rattle.sheet.specs.declared.Table.{Table}
 use Rattle.sheet.specs.Places.{filledBelow}
 use Rattle.sheet.specs.Layout.{recordAt}
@@ -23,3 +23,7 @@ allAllowed [] [] = true
 allAllowed [] (q ∷ qs) = false
 allAllowed (p ∷ ps) [] = false
 allAllowed (p ∷ ps) (q ∷ qs) = isAllowed p q && allAllowed ps qs
+
+-- "one fault priority for each record, 1 to its p", as the code asks for it of the choices that it is given
+abbrev pub Within : Table → List ℕ → Type 0
+Within t choice = (place : ℕ) → place < t .count → (1 ≤ getD choice place 0) × (getD choice place 0 ≤ recordAt (t .records) place .priority)

@@ -3,10 +3,12 @@
 ghost use mathlib.Core.Path.{_≡_};
 ghost use Rattle.analysis.specs.Answers.{timedRefusal, timedAnswer, choiceRefusal, assessmentOf, choiceAssessment, ownAssessment, intervalAnswer};
 ghost use Rattle.analysis.specs.Tasks.{tasksOf};
+ghost use Rattle.analysis.specs.Allowed.{Within};
 ghost use Rattle.sheet.specs.Rules.{tableRefusal};
 use sheet::Table;
 
 mod allowed;
+mod order;
 mod response;
 mod search;
 mod workload;
@@ -50,14 +52,21 @@ pub enum Interval {
     Nothing,
 }
 
-// One of the two equations as the code computes it: a base, the level above which records run, the low level above which
-// those below the level run once more, the backup paid for each fault, and what is already paid.
+// One of the two equations as the code computes it, for the record at a rank: a base, the records before the rank and those after it and before the last,
+// the backup paid for each fault, and what is already paid.
 pub struct Demand {
     pub base: u64,
-    pub level: u8,
-    pub low: u8,
+    pub rank: usize,
+    pub until: usize,
     pub backup: u16,
     pub paid: u64,
+}
+
+// A table with its records from the highest priority to the lowest, and beside them the fault priorities of a choice in that order and the records' original places.
+pub struct Ordered {
+    pub table: Table,
+    pub faults: [u8; 8],
+    pub places: [usize; 8],
 }
 
 // The refusal of asking a table for the record at a place: the table's own, then 12.
@@ -82,7 +91,7 @@ pub fn response_time(table: Table, place: usize) -> Timed
             entry: response::no_entry(),
         };
     }
-    let entry = response::entry(table, response::own_choice(table), place);
+    let entry = response::entry_at(table, response::own_choice(table), place);
     Timed { refusal: 0, entry }
 }
 
@@ -103,7 +112,7 @@ pub fn judge_choice(table: Table, choice: [u8; 8]) -> u8
 
 // The refusal, or what is asked of a good table under a choice: without times, the search ends at the first late task.
 fn answer(refusal: u8, table: Table, choice: [u8; 8], with_times: bool) -> Assessment
-    requires { ⌜ (refusal ≡ 0 → tableRefusal table ≡ 0) ⌝ }
+    requires { ⌜ (refusal ≡ 0 → (tableRefusal table ≡ 0) × (Within table choice)) ⌝ }
     ensures { λ r. ⌜ r ≡ assessmentOf refusal (tasksOf table (table .interval) choice) «with_times» ⌝ }
 {
     if refusal != 0 {
@@ -112,7 +121,7 @@ fn answer(refusal: u8, table: Table, choice: [u8; 8], with_times: bool) -> Asses
     if with_times {
         return response::assessment(table, choice);
     }
-    response::no_times(0, response::passes(table, table.interval, choice))
+    response::no_times(0, response::passes(table, choice))
 }
 
 // Each record's entry, where the times are asked for, and whether no task is late, under a choice that takes the place of the table's own fault priorities.

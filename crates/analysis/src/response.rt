@@ -1,10 +1,12 @@
-// Response times: struck elsewhere, struck itself, the larger of both; and what is asked of all records together.
-// Fault priorities come from a choice beside the table. Each time is searched for up to a limit: 65,535 for a figure, the deadline for the verdict.
+// Response times: struck elsewhere, struck itself, the larger of both; and what is asked of all records together. They are computed with the records
+// held from the highest priority to the lowest and answered in record order. Fault priorities come from a choice beside the table. Each time is searched for up to a limit: 65,535 for a figure, the deadline for the verdict.
 ghost use mathlib.Core.Path.{_≡_};
 ghost use mathlib.Core.Bool.{true};
 ghost use Prim.Native.Nat.{_≤_, _<_};
 ghost use Rattle.sheet.specs.Rules.{tableRefusal};
 ghost use Rattle.analysis.specs.Tasks.{tasksOf, faultAt, ownChoice};
+ghost use Rattle.analysis.specs.Allowed.{Within};
+ghost use Rattle.analysis.specs.Demand.{Sorted, Chosen};
 ghost use Rattle.analysis.specs.Response.{timeElsewhere, timeItself, responseWithin, late, passes};
 ghost use Rattle.analysis.specs.Answers.{outcomeOf, saysLate, slackOf, entryOf, noEntry, untimed, assessmentOf, leastInterval};
 use crate::Assessment;
@@ -12,6 +14,7 @@ use crate::Demand;
 use crate::Entry;
 use crate::Outcome;
 use crate::Slack;
+use crate::order;
 use crate::search;
 use crate::workload;
 use sheet::Table;
@@ -19,52 +22,56 @@ use sheet::Table;
 // The longest response time that is searched for.
 const LONGEST: u16 = 65535;
 
-// The time of the record at a place when faults strike other tasks only, or 0. No length below the base is enough, so the climb starts there.
-fn elsewhere(table: Table, interval: u16, choice: [u8; 8], place: usize, limit: u64) -> u64
-    requires { ⌜ (tableRefusal table ≡ 0) × (1 ≤ interval) × (place < table .count) × (limit < 65536) ⌝ }
-    ensures { λ r. ⌜ (r ≡ timeElsewhere limit (tasksOf table interval choice) place) × (r < 65536) ⌝ }
+// The time of the record at a rank when faults strike other tasks only, or 0. No length below the base is enough, so the climb starts there.
+// A backup at or above its priority is that of a record before it.
+fn elsewhere(table: Table, interval: u16, faults: [u8; 8], rank: usize, limit: u64) -> u64
+    requires { ⌜ (Sorted table) × (Chosen table faults) × (1 ≤ interval) × (rank < table .count) × (limit < 65536) ⌝ }
+    ensures { λ r. ⌜ (r ≡ timeElsewhere limit (tasksOf table interval faults) rank) × (r < 65536) ⌝ }
 {
-    let task = table.records[place];
+    let task = table.records[rank];
     let base = workload::wide(task.cost);
     let sought = Demand {
         base,
-        level: task.priority,
-        low: task.priority,
-        backup: workload::largest(table, choice, place, task.priority),
+        rank,
+        until: 0,
+        backup: workload::largest(table, faults, rank, task.priority),
         paid: 0,
     };
     search::climb(table, interval, sought, base, limit)
 }
 
-// The time of the record at a place when the first fault strikes it, or 0, likewise.
-fn itself(table: Table, interval: u16, choice: [u8; 8], place: usize, limit: u64) -> u64
-    requires { ⌜ (tableRefusal table ≡ 0) × (1 ≤ interval) × (place < table .count) × (limit < 65536) ⌝ }
-    ensures { λ r. ⌜ (r ≡ timeItself limit (tasksOf table interval choice) place) × (r < 65536) ⌝ }
+// The time of the record at a rank when the first fault strikes it, or 0, likewise. The records above its fault priority are those before the last,
+// and each of them that stands after it runs once more.
+fn itself(table: Table, interval: u16, faults: [u8; 8], rank: usize, limit: u64) -> u64
+    requires { ⌜ (Sorted table) × (Chosen table faults) × (1 ≤ interval) × (rank < table .count) × (limit < 65536) ⌝ }
+    ensures { λ r. ⌜ (r ≡ timeItself limit (tasksOf table interval faults) rank) × (r < 65536) ⌝ }
 {
-    let task = table.records[place];
-    let fault = choice[place];
-    let backup = workload::largest_of_all(table, choice, place, fault);
-    let base = workload::wide(task.cost) + workload::wide(task.backup);
+    let task = table.records[rank];
+    let fault = faults[rank];
+    let until = (table.count - fault) as usize;
+    let backup = workload::largest(table, faults, until + 1, fault);
+    let once = workload::runs(table, rank + 1, until, 1);
+    let base = workload::wide(task.cost) + workload::wide(task.backup) + once;
     let sought = Demand {
         base,
-        level: task.priority,
-        low: fault,
+        rank,
+        until,
         backup,
         paid: workload::wide(backup),
     };
     search::climb(table, interval, sought, base, limit)
 }
 
-// The response time of the record at a place, or 0 where it is late.
-fn response(table: Table, interval: u16, choice: [u8; 8], place: usize, limit: u64) -> u16
-    requires { ⌜ (tableRefusal table ≡ 0) × (1 ≤ interval) × (place < table .count) × (limit < 65536) ⌝ }
-    ensures { λ r. ⌜ r ≡ responseWithin limit (tasksOf table interval choice) place ⌝ }
+// The response time of the record at a rank, or 0 where it is late.
+fn response(table: Table, interval: u16, faults: [u8; 8], rank: usize, limit: u64) -> u16
+    requires { ⌜ (Sorted table) × (Chosen table faults) × (1 ≤ interval) × (rank < table .count) × (limit < 65536) ⌝ }
+    ensures { λ r. ⌜ r ≡ responseWithin limit (tasksOf table interval faults) rank ⌝ }
 {
-    let first = elsewhere(table, interval, choice, place, limit);
+    let first = elsewhere(table, interval, faults, rank, limit);
     if first == 0 {
         return 0;
     }
-    let second = itself(table, interval, choice, place, limit);
+    let second = itself(table, interval, faults, rank, limit);
     if second == 0 {
         return 0;
     }
@@ -144,19 +151,29 @@ pub fn own_choice(table: Table) -> [u8; 8]
     choice
 }
 
-// The entry of the record at a place.
-pub fn entry(table: Table, choice: [u8; 8], place: usize) -> Entry
-    requires { ⌜ (tableRefusal table ≡ 0) × (place < table .count) ⌝ }
-    ensures { λ r. ⌜ r ≡ entryOf (tasksOf table (table .interval) choice) place ⌝ }
+// The entry of the record at a rank.
+fn entry(table: Table, faults: [u8; 8], rank: usize) -> Entry
+    requires { ⌜ (Sorted table) × (Chosen table faults) × (1 ≤ table .interval) × (rank < table .count) ⌝ }
+    ensures { λ r. ⌜ r ≡ entryOf (tasksOf table (table .interval) faults) rank ⌝ }
 {
-    let deadline = table.records[place].deadline;
+    let deadline = table.records[rank].deadline;
     let limit = workload::wide(LONGEST);
-    let time = response(table, table.interval, choice, place, limit);
+    let time = response(table, table.interval, faults, rank, limit);
     Entry {
         deadline,
         outcome: outcome(deadline, time),
         slack: margin(deadline, time),
     }
+}
+
+// The entry of the record at a place.
+pub fn entry_at(table: Table, choice: [u8; 8], place: usize) -> Entry
+    requires { ⌜ (tableRefusal table ≡ 0) × (Within table choice) × (place < table .count) ⌝ }
+    ensures { λ r. ⌜ r ≡ entryOf (tasksOf table (table .interval) choice) place ⌝ }
+{
+    let held = order::ordered(table, choice);
+    let faults = held.faults;
+    entry(held.table, faults, order::rank_of(table, place))
 }
 
 // Whether an outcome is the word late.
@@ -169,21 +186,23 @@ fn says_late(outcome: Outcome) -> bool
     }
 }
 
-// The entries of a good table under a choice, and whether none of them says late.
+// The entries of a good table under a choice, each at its record's place, and whether none of them says late.
 pub fn assessment(table: Table, choice: [u8; 8]) -> Assessment
-    requires { ⌜ tableRefusal table ≡ 0 ⌝ }
+    requires { ⌜ (tableRefusal table ≡ 0) × (Within table choice) ⌝ }
     ensures { λ r. ⌜ r ≡ assessmentOf 0 (tasksOf table (table .interval) choice) true ⌝ }
 {
+    let held = order::ordered(table, choice);
+    let faults = held.faults;
     let count = table.count as usize;
     let mut entries = [no_entry(); 8];
     let mut some_late = false;
-    let mut place: usize = 0;
-    while place < count {
-        let filled = entry(table, choice, place);
+    let mut rank: usize = 0;
+    while rank < count {
+        let filled = entry(held.table, faults, rank);
         let outcome = filled.outcome;
-        entries[place] = filled;
+        entries[held.places[rank]] = filled;
         some_late = some_late | says_late(outcome);
-        place += 1;
+        rank += 1;
     }
     Assessment {
         refusal: 0,
@@ -192,30 +211,39 @@ pub fn assessment(table: Table, choice: [u8; 8]) -> Assessment
     }
 }
 
-// Whether the record at a place is late, which a search up to its deadline decides.
-fn is_late(table: Table, interval: u16, choice: [u8; 8], place: usize) -> bool
-    requires { ⌜ (tableRefusal table ≡ 0) × (1 ≤ interval) × (place < table .count) ⌝ }
-    ensures { λ r. ⌜ r ≡ late (tasksOf table interval choice) place ⌝ }
+// Whether the record at a rank is late, which a search up to its deadline decides.
+fn is_late(table: Table, interval: u16, faults: [u8; 8], rank: usize) -> bool
+    requires { ⌜ (Sorted table) × (Chosen table faults) × (1 ≤ interval) × (rank < table .count) ⌝ }
+    ensures { λ r. ⌜ r ≡ late (tasksOf table interval faults) rank ⌝ }
 {
-    let task = table.records[place];
+    let task = table.records[rank];
     let limit = workload::wide(task.deadline);
-    response(table, interval, choice, place, limit) == 0
+    response(table, interval, faults, rank, limit) == 0
 }
 
-// Whether no record of a good table is late.
-pub fn passes(table: Table, interval: u16, choice: [u8; 8]) -> bool
-    requires { ⌜ (tableRefusal table ≡ 0) × (1 ≤ interval) ⌝ }
-    ensures { λ r. ⌜ r ≡ passes (tasksOf table interval choice) ⌝ }
+// Whether no record of a table held in order is late, from the lowest up: what runs above a record delays it, so that a low one is late the sooner.
+fn passes_in_order(table: Table, interval: u16, faults: [u8; 8]) -> bool
+    requires { ⌜ (Sorted table) × (Chosen table faults) × (1 ≤ interval) ⌝ }
+    ensures { λ r. ⌜ r ≡ passes (tasksOf table interval faults) ⌝ }
 {
-    let count = table.count as usize;
-    let mut place: usize = 0;
-    while place < count {
-        if is_late(table, interval, choice, place) {
+    let mut rank = table.count as usize;
+    while 0 < rank {
+        rank -= 1;
+        if is_late(table, interval, faults, rank) {
             return false;
         }
-        place += 1;
     }
     true
+}
+
+// Whether no record of a good table is late under a choice.
+pub fn passes(table: Table, choice: [u8; 8]) -> bool
+    requires { ⌜ (tableRefusal table ≡ 0) × (Within table choice) ⌝ }
+    ensures { λ r. ⌜ r ≡ passes (tasksOf table (table .interval) choice) ⌝ }
+{
+    let held = order::ordered(table, choice);
+    let faults = held.faults;
+    passes_in_order(held.table, table.interval, faults)
 }
 
 // The least interval at which a good table passes, or 0. None passes at 1, so the search begins at 2.
@@ -223,10 +251,11 @@ pub fn least(table: Table) -> u16
     requires { ⌜ tableRefusal table ≡ 0 ⌝ }
     ensures { λ r. ⌜ r ≡ leastInterval table ⌝ }
 {
-    let choice = own_choice(table);
+    let held = order::ordered(table, own_choice(table));
+    let faults = held.faults;
     let mut interval: u16 = 2;
     loop {
-        if passes(table, interval, choice) {
+        if passes_in_order(held.table, interval, faults) {
             return interval;
         }
         if interval == 65535 {

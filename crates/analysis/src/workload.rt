@@ -1,13 +1,14 @@
 // Rounding up, the largest backup at or above a level, and the load of a length: what the two equations are made of.
+// The table's records are held from the highest priority to the lowest, so that those above a record stand before it.
 ghost use mathlib.Core.Path.{_≡_};
-ghost use Prim.Native.Nat.{_≤_, _<_, max};
+ghost use mathlib.Core.Bool.{true};
+ghost use Prim.Native.Nat.{_≤_, _<_, _*_, max};
 ghost use mathlib.Core.List.{[]};
-ghost use Rattle.sheet.specs.Rules.{tableRefusal};
 ghost use Rattle.analysis.specs.Rounding.{up};
 ghost use Rattle.analysis.specs.Tasks.{tasksOf};
-ghost use Rattle.analysis.specs.Backups.{others, everyone, largestBackup, backupOf};
+ghost use Rattle.analysis.specs.Backups.{backupOf};
 ghost use Rattle.analysis.specs.Equations.{supplierOf};
-ghost use Rattle.analysis.specs.Demand.{runOf, loadOf, demandOf};
+ghost use Rattle.analysis.specs.Demand.{Sorted, largestBefore, runsOf, loadOf, demandOf};
 use crate::Demand;
 use sheet::Record;
 use sheet::Table;
@@ -38,16 +39,11 @@ fn up(a: u32, b: u32) -> u32
     quotient + 1
 }
 
-// A record's backup if it is meant and runs at or above the level, else 0.
-fn backup_at(task: Record, is_meant: bool, fault: u8, level: u8) -> u16
-    ensures { λ r. ⌜ r ≡ backupOf task «is_meant» fault level ⌝ }
+// A record's backup if it runs at or above the level, else 0.
+fn backup_at(task: Record, fault: u8, level: u8) -> u16
+    ensures { λ r. ⌜ r ≡ backupOf task true fault level ⌝ }
 {
-    if is_meant {
-        if level <= fault {
-            return task.backup;
-        }
-    }
-    0
+    if level <= fault { task.backup } else { 0 }
 }
 
 // The larger of two numbers.
@@ -57,50 +53,40 @@ pub fn larger(a: u16, b: u16) -> u16
     if a < b { b } else { a }
 }
 
-// The largest backup at or above the level, the record at one place left out.
-pub fn largest(table: Table, choice: [u8; 8], omitted: usize, level: u8) -> u16
-    requires { ⌜ table .count ≤ 8 ⌝ }
-    ensures { λ r. ⌜ r ≡ largestBackup (tasksOf table 0 choice) (others omitted) level ⌝ }
+// The largest backup at or above the level among the records before a rank.
+pub fn largest(table: Table, faults: [u8; 8], until: usize, level: u8) -> u16
+    requires { ⌜ until ≤ 8 ⌝ }
+    ensures { λ r. ⌜ r ≡ largestBefore (tasksOf table 0 faults) until level ⌝ }
 {
-    let count = table.count as usize;
     let mut most: u16 = 0;
-    let mut place: usize = 0;
-    while place < count {
-        most = larger(
-            most,
-            backup_at(table.records[place], place != omitted, choice[place], level),
-        );
-        place += 1;
+    let mut rank: usize = 0;
+    while rank < until {
+        most = larger(most, backup_at(table.records[rank], faults[rank], level));
+        rank += 1;
     }
     most
 }
 
-// The largest backup at or above the level among all records: the one at a place and the others.
-pub fn largest_of_all(table: Table, choice: [u8; 8], place: usize, level: u8) -> u16
-    requires { ⌜ (table .count ≤ 8) × (place < table .count) ⌝ }
-    ensures { λ r. ⌜ r ≡ largestBackup (tasksOf table 0 choice) everyone level ⌝ }
+// The time that a record runs in a length: its cost for each period begun.
+fn times(task: Record, length: u32) -> u32
+    requires { ⌜ (length < 65536) × (1 ≤ task .period) ⌝ }
+    ensures { λ r. ⌜ (r ≡ up length (task .period) * task .cost) × (r ≤ 4294836225) ⌝ }
 {
-    let task = table.records[place];
-    larger(
-        largest(table, choice, place, level),
-        backup_at(task, true, choice[place], level),
-    )
+    up(length, half_wide(task.period)) * half_wide(task.cost)
 }
 
-// The time that a record runs in so many periods: once for each above the level, and once more below it and above the low level.
-fn run_of(task: Record, level: u8, low: u8, length: u32) -> u32
-    requires { ⌜ (length < 65536) × (1 ≤ task .period) ⌝ }
-    ensures { λ r. ⌜ (r ≡ runOf task level low length) × (r ≤ 4294901760) ⌝ }
+// The time that the records from one rank on and before another run in a length.
+pub fn runs(table: Table, from: usize, until: usize, length: u32) -> u64
+    requires { ⌜ (Sorted table) × (from ≤ table .count) × (until ≤ table .count) × (length < 65536) ⌝ }
+    ensures { λ r. ⌜ (r ≡ runsOf (tasksOf table 0 []) from until length) × (r ≤ 34358689800) ⌝ }
 {
-    if level < task.priority {
-        return up(length, half_wide(task.period)) * half_wide(task.cost);
+    let mut total: u64 = 0;
+    let mut rank = from;
+    while rank < until {
+        total += times(table.records[rank], length) as u64;
+        rank += 1;
     }
-    if low < task.priority {
-        if task.priority < level {
-            return (1 + up(length, half_wide(task.period))) * half_wide(task.cost);
-        }
-    }
-    0
+    total
 }
 
 // What the supplier takes of a length: as a task above all others would, whose period is the round and whose cost is what is left of it beside our share.
@@ -111,29 +97,23 @@ fn supplier(round: u16, share: u16, length: u32) -> u32
     up(length, half_wide(round)) * half_wide(round - share)
 }
 
-// What the records above the demand's levels, the faults and the supplier take of a length.
-pub fn load(table: Table, interval: u16, demand: Demand, length: u64) -> u64
-    requires { ⌜ (tableRefusal table ≡ 0) × (1 ≤ interval) × (length < 65536) ⌝ }
-    ensures { λ r. ⌜ (r ≡ loadOf (tasksOf table interval []) demand length) × (r ≤ 42948886530) ⌝ }
+// What a length is asked by the records before the demand's rank and by those after it, by the faults and by the supplier.
+fn load(table: Table, interval: u16, demand: Demand, length: u64) -> u64
+    requires { ⌜ (Sorted table) × (1 ≤ interval) × (demand .rank < table .count) × (demand .until ≤ table .count) × (length < 65536) ⌝ }
+    ensures { λ r. ⌜ (r ≡ loadOf (tasksOf table interval []) demand length) × (r ≤ 77307052050) ⌝ }
 {
-    let count = table.count as usize;
-    let level = demand.level;
-    let low = demand.low;
     let span = length as u32;
     let faults = up(span, half_wide(interval)) * half_wide(demand.backup);
     let shared = supplier(table.round, table.share, span);
-    let mut total = faults as u64 + shared as u64;
-    let mut place: usize = 0;
-    while place < count {
-        total += run_of(table.records[place], level, low, span) as u64;
-        place += 1;
-    }
-    total
+    let rank = demand.rank;
+    let above = runs(table, 0, rank, span);
+    let between = runs(table, rank + 1, demand.until, span);
+    above + between + faults as u64 + shared as u64
 }
 
 // What a demand asks of a length.
 pub fn asked(table: Table, interval: u16, demand: Demand, length: u64) -> u64
-    requires { ⌜ (tableRefusal table ≡ 0) × (1 ≤ interval) × (length < 65536) × (demand .base < 131072) ⌝ }
+    requires { ⌜ (Sorted table) × (1 ≤ interval) × (demand .rank < table .count) × (demand .until ≤ table .count) × (demand .base < 34359738368) × (length < 65536) ⌝ }
     ensures { λ r. ⌜ r ≡ demandOf (tasksOf table interval []) demand length ⌝ }
 {
     let total = demand.base + load(table, interval, demand, length);

@@ -1,6 +1,6 @@
--- Places with n different priorities from 1 to n have each of them, and n! choices: the product of the priorities counts them.
+-- Places with n different priorities from 1 to n have n! choices: the product of the priorities counts them.
 -- Assumes nothing.
-use Prim.Native.Nat.{ℕ, zero, suc, _+_, _-_, _*_, _≤_, _<_, suc-le-suc}
+use Prim.Native.Nat.{ℕ, zero, suc, _+_, _*_, _≤_, _<_, suc-le-suc}
 use mathlib.Core.Path.{_≡_, refl, sym, ap, ap₂, _∙_}
 use mathlib.Core.Bool.{Bool, true, false, cond, or-false}
 use mathlib.Core.List.{List, [], _∷_}
@@ -99,35 +99,11 @@ module _ (f : ℕ → ℕ) (n : ℕ) (within : (k : ℕ) → k < n → (1 ≤ f 
       (le-of-eq (grown-none (λ p. suc) 0 f n some), λ e. grown-none _*_ 1 f n some)
   full-to (suc v) = rw (grown-more (λ p. suc) 0 f (λ a b x. refl) v n fresh, grown-more _*_ 1 f mul-left-comm v n fresh) (full-more (someBelow (λ k. eqb (f k) (suc v)) n) v _ _ (full-to v))
 
-  -- all n are at most n
-  all-to : grownTo (λ p. suc) 0 f n n ≡ n
-  all-to = grown-all (λ p. suc) 0 f n n (λ k h. within k h .1) ∙ number-all f n
-
   -- their product is n!
   product-factorial : grown _*_ 1 f n ≡ factorial n
-  product-factorial = sym (grown-all _*_ 1 f n n (λ k h. within k h .1)) ∙ full-to n .1 all-to
-
-  -- those at most v + d are at most d more than those at most v
-  few-more : (d v : ℕ) → grownTo (λ p. suc) 0 f (d + v) n ≤ d + grownTo (λ p. suc) 0 f v n
-  few-more zero v = rw (zero-add v) (omega arith)
-  few-more (suc d) v =
-      rw (suc-add d v, grown-more (λ p. suc) 0 f (λ a b x. refl) (d + v) n fresh)
-      (omega (arith, few-more d v, one-more (someBelow (λ k. eqb (f k) (suc (d + v))) n) (grownTo (λ p. suc) 0 f (d + v) n)))
-    where
-      one-more : (b : Bool) (x : ℕ) → cond b (suc x) x ≤ suc x
-      one-more true x = le-refl (suc x)
-      one-more false x = omega arith
-
-  -- so each number from 1 to n is there: without it they would be fewer than n
-  pub each-there : (v : ℕ) → v < n → someBelow (λ k. eqb (f k) (suc v)) n ≡ true
-  each-there v below = go (someBelow (λ k. eqb (f k) (suc v)) n) refl
-    where
-      go : (b : Bool) → someBelow (λ k. eqb (f k) (suc v)) n ≡ b → b ≡ true
-      go true e = refl
-      go false e =
-          let rest : n - suc v + suc v ≡ n = omega arith in
-          let number : grownTo (λ p. suc) 0 f (suc v) n ≡ grownTo (λ p. suc) 0 f v n = grown-more (λ p. suc) 0 f (λ a b x. refl) v n fresh ∙ simp e in
-          absurd (omega (arith, few-more (n - suc v) (suc v), ap (λ (w : ℕ). grownTo (λ p. suc) 0 f w n) rest, number, full-to v .0, all-to))
+  product-factorial =
+      let small : (k : ℕ) → k < n → f k ≤ n = λ k h. within k h .1 in
+      sym (grown-all _*_ 1 f n n small) ∙ full-to n .1 (grown-all (λ p. suc) 0 f n n small ∙ number-all f n)
 
 -- each of some entries before each of some rests makes as many lists as the product of their numbers
 spread-length : (qs : List ℕ) (rests : List (List ℕ)) → length (spread qs rests) ≡ length qs * length rests

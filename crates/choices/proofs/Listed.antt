@@ -15,7 +15,7 @@ use Rattle.sheet.specs.Rules.{tableRefusal}
 use Rattle.sheet.proofs.Turns.{first-of, next-of}
 use Rattle.sheet.proofs.Cases.{good-table, good-at}
 use Rattle.analysis.specs.Allowed.{levelsOf, allAllowed}
-use Rattle.analysis.proofs.Choice.{entry-allowed, allowed-length, zero-at-all, length-levels}
+use Rattle.analysis.proofs.Choice.{entry-allowed, allowed-length, alike-at, length-levels}
 use Rattle.choices.specs.Choices.{choicesOf, sift, passingOf}
 use Rattle.choices.specs.Order.{before, allZero, afterOf}
 use Rattle.choices.specs.Answers.{walkRefusal, bytesOf, listRefusal, listAnswer, listLeaves}
@@ -75,7 +75,7 @@ module _ (t : Table) (good : tableRefusal t ≡ 0) where
   unfolding levelsOf
   level-within =
       let known = good-table t good in
-      filled-within 8 (λ place. recordAt (t .records) place .priority) (replicate 8 0) (λ k. omega (arith, zero-at-all 8 k)) (t .count)
+      filled-within 8 (λ place. recordAt (t .records) place .priority) (replicate 8 0) (λ k. omega (arith, alike-at {A = ℕ} 0 8 k)) (t .count)
       (λ k h. omega (arith, good-at (t .count) (recordAt (t .records)) (known .records) k h .priority .1, known .count .1))
 
   -- a passing choice has eight entries, each with room in four bits

@@ -1,24 +1,25 @@
 -- The lowest task of a good table: there is one, looking for it place by place ends at it, and where it is late no choice passes. Assumes nothing.
-use Prim.Native.Nat.{ℕ, _<_}
+use Prim.Native.Nat.{ℕ, _-_, _<_}
 use mathlib.Core.Path.{_≡_, refl, sym, ap, _∙_}
 use mathlib.Core.Bool.{Bool, true, false, not, _&&_, true≢false}
 use mathlib.Core.List.{List, []}
 use native.Mathlib.Decide.{ℕ-discrete, decLt}
 use native.Mathlib.Omega.{arith}
-use borrow.Author.Tests.{eq-eqb, ne-eqb, eqb-true}
+use borrow.Author.Tests.{eq-eqb, ne-eqb}
 use lib.Dec.{eqb}
 use Rattle.sheet.specs.declared.Record.{Record}
 use Rattle.sheet.specs.declared.Table.{Table}
 use Rattle.sheet.specs.Places.{someBelow}
 use Rattle.sheet.specs.Layout.{recordAt}
-use Rattle.sheet.specs.Rules.{taken, tableRefusal}
-use Rattle.sheet.proofs.Cases.{good-table, good-at}
+use Rattle.sheet.specs.Rules.{tableRefusal}
+use Rattle.sheet.proofs.Cases.{good-table}
+use Rattle.sheet.proofs.Ranks.{ranked, each-there}
 use Rattle.analysis.specs.Tasks.{tasksOf, ownChoice}
 use Rattle.analysis.specs.Response.{responseTime, isLate, late, passes}
 use Rattle.analysis.specs.Allowed.{levelsOf, allAllowed}
 use Rattle.analysis.specs.declared.Timed.{Timed}
 use Rattle.analysis.specs.Answers.{ownTasks, saysLate, timedAnswer}
-use Rattle.analysis.proofs.Verdicts.{some-found, some-where, none-below}
+use Rattle.analysis.proofs.Verdicts.{some-found, none-below}
 use Rattle.analysis.proofs.Choice.{Allowed, and-true, allowed-exactly, allowed-length, length-levels, own-allowed}
 use Rattle.analysis.proofs.Refused.{timed-given}
 use Rattle.analysis.proofs.Lowest.{response-lowest}
@@ -27,7 +28,6 @@ use Rattle.choices.specs.Lowest.{Lowest, lowestLate}
 use Rattle.choices.proofs.Sifted.{sift-none}
 use Rattle.choices.proofs.Members.{choices-sound}
 use Rattle.choices.proofs.Advancing.{passesWith}
-use Rattle.choices.proofs.Counted.{each-there}
 
 -- whether the record at a place has priority 1
 abbrev pub hasOne : List Record → ℕ → Bool
@@ -40,34 +40,16 @@ lowest-late-same t place at c d first second =
     ap (isLate (recordAt (t .records) place .deadline)) (response-lowest t (t .interval) c d (first .each) (second .each) 65535 place (at .0) (at .1))
 
 module _ (t : Table) (good : tableRefusal t ≡ 0) where
-  some-lowest : someBelow (hasOne (t .records)) (t .count) ≡ true
-  unfolding taken
-  some-lowest =
-      let table = good-table t good in
-      let each = good-at (t .count) (recordAt (t .records)) (table .records) in
-      each-there (λ k. recordAt (t .records) k .priority) (t .count) (λ k h. each k h .priority) (λ k h. each k h .fresh) 0 (omega (arith, table .count .0))
-
   -- one record has priority 1
   pub lowest-there : (place : ℕ) × Lowest t place
   lowest-there =
-      let at = some-where (hasOne (t .records)) (t .count) some-lowest in
-      (at .0, (at .1, eqb-true (recordAt (t .records) (at .0) .priority) 1 (at .2)))
+      let table = good-table t good in
+      let at = each-there (t .count) (recordAt (t .records)) (table .records) 1 (omega arith) (table .count .0) in
+      (at .0, (at .1, at .2))
 
-  -- and only one, since no record has the priority of an earlier one
-  not-before : (j k : ℕ) → Lowest t j → Lowest t k → j < k → ⊥
-  unfolding taken
-  not-before j k first second before =
-      let fresh = good-at (t .count) (recordAt (t .records)) (good-table t good .records) k (second .0) .fresh in
-      let found = some-found (λ earlier. eqb (recordAt (t .records) earlier .priority) (recordAt (t .records) k .priority)) j k before (eq-eqb _ _ (first .1 ∙ sym (second .1))) in
-      true≢false (sym found ∙ fresh)
-
+  -- and only one, since no record has the priority of another
   pub lowest-once : (j k : ℕ) → Lowest t j → Lowest t k → j ≡ k
-  lowest-once j k first second = go (decLt j k) (decLt k j)
-    where
-      go : Dec (j < k) → Dec (k < j) → j ≡ k
-      go (yes h) side = absurd (not-before j k first second h)
-      go (no h) (yes l) = absurd (not-before k j second first l)
-      go (no h) (no l) = omega arith
+  lowest-once j k first second = ranked (t .count) (recordAt (t .records)) (good-table t good .records) .apart j k (first .0) (second .0) (ap (λ (p : ℕ). t .count - p) (first .1 ∙ sym (second .1)))
 
   -- looking for it place by place: while none has priority 1, it lies ahead
   pub lowest-ahead : (place : ℕ) → someBelow (hasOne (t .records)) place ≡ false → place < t .count

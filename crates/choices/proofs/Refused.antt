@@ -13,7 +13,7 @@ use Rattle.sheet.specs.Rules.{tableRefusal}
 use Rattle.sheet.proofs.Tells.{ltb-tells}
 use Rattle.sheet.proofs.Order.{table-in-order}
 use Rattle.sheet.proofs.Refused.{given-if}
-use Rattle.analysis.proofs.Choice.{zero-at-all}
+use Rattle.analysis.proofs.Choice.{alike-at}
 use Rattle.choices.specs.declared.Walk.{Walk}
 use Rattle.choices.specs.declared.Arrival.the-variants.{Refused}
 use Rattle.choices.specs.Choices.{passingOf}
@@ -26,13 +26,13 @@ use Rattle.choices.proofs.Demands.{Zero, list-bytes}
 
 -- "before the first choice, shown by eight zero entries"
 pub start-zero : (length (startWalk .entries) ≡ 8) × Zero (startWalk .entries)
-start-zero = (refl, zero-at-all 8)
+start-zero = (refl, alike-at 0 8)
 
 -- `step`: refused, it gives the number beside a walk with all entries zero
 pub step-refused : (t : Table) (w : Walk) → (walkRefusal t (w .entries) ≡ 0 → ⊥)
     → (stepAnswer t w .arrival ≡ Refused (walkRefusal t (w .entries))) × (length (stepAnswer t w .walk .entries) ≡ 8) × Zero (stepAnswer t w .walk .entries)
 unfolding stepAnswer
-step-refused t w broken = simp (ne-eqb (walkRefusal t (w .entries)) 0 broken) (refl, refl, zero-at-all 8)
+step-refused t w broken = simp (ne-eqb (walkRefusal t (w .entries)) 0 broken) (refl, refl, alike-at 0 8)
 
 -- `list`
 module _ (t : Table) (out : List ℕ) where

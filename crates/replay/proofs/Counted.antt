@@ -1,34 +1,16 @@
 -- Counting over places: none, all, one more, and place by place. Assumes nothing.
-use Prim.Native.Nat.{ℕ, zero, suc, _+_, _≤_, _<_}
-use mathlib.Core.Path.{_≡_, refl, ap, _∙_}
-use mathlib.Core.Bool.{Bool, true, false}
+use Prim.Native.Nat.{ℕ, zero, suc, _+_, _<_}
+use mathlib.Core.Path.{_≡_, refl, ap}
+use mathlib.Core.Bool.{Bool, false}
 use mathlib.Core.Logic.{_⊎_, ⊎-elim}
 use native.Mathlib.Nat.{not-suc-le-zero, eq-or-lt-of-le, le-of-suc-le-suc}
 use native.Mathlib.Omega.{arith}
 use Rattle.replay.specs.Cells.{oneIf, countBelow}
-use Rattle.replay.proofs.Turns.{one-at-most, count-at-most}
-
-one-true : (b : Bool) → 1 ≤ oneIf b → b ≡ true
-unfolding oneIf
-one-true true h = refl
-one-true false h = absurd (omega arith)
 
 pub count-none : (test : ℕ → Bool) (n : ℕ) → ((k : ℕ) → k < n → test k ≡ false) → countBelow test n ≡ 0
 unfolding countBelow oneIf
 count-none test zero none = refl
 count-none test (suc n) none = simp (count-none test n (λ k below. none k (omega arith)), none n (omega arith))
-
--- where as many are counted as there are places, the test holds at each
-pub count-full : (test : ℕ → Bool) (n : ℕ) → countBelow test n ≡ n → (k : ℕ) → k < n → test k ≡ true
-unfolding countBelow
-count-full test zero all k below = absurd (not-suc-le-zero below)
-count-full test (suc n) all k below =
-    let rest : countBelow test n ≡ n = omega (arith, all, count-at-most test n, one-at-most (test n)) in
-    let here : test n ≡ true = one-true (test n) (omega (arith, all, count-at-most test n)) in
-    go here (count-full test n rest k) (eq-or-lt-of-le (le-of-suc-le-suc below))
-  where
-    go : test n ≡ true → (k < n → test k ≡ true) → (k ≡ n) ⊎ (k < n) → test k ≡ true
-    go here rest w = ⊎-elim (λ same. ap test same ∙ here) rest w
 
 -- two pairs of tests that count alike at each place count alike together
 pub count-pairs : (f g h i : ℕ → Bool) (n : ℕ) → ((k : ℕ) → k < n → oneIf (f k) + oneIf (g k) ≡ oneIf (h k) + oneIf (i k)) → countBelow f n + countBelow g n ≡ countBelow h n + countBelow i n

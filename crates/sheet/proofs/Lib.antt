@@ -3,8 +3,10 @@ pub mod Packing
 pub mod Editions
 pub mod Spelled
 pub mod Turns
+pub mod Onto
 pub mod Parts
 pub mod Cases
+pub mod Ranks
 pub mod Tells
 pub mod Order
 pub mod Judging

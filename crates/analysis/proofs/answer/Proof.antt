@@ -1,8 +1,6 @@
 -- `analysis::answer` meets its contract. Assumes nothing.
 use mathlib.Core.Path.{_∙_}
-use native.Mathlib.Omega.{arith}
 use borrow.Author.Tests.{ne-eqb}
-use Rattle.sheet.proofs.Cases.{good-table}
 use Rattle.analysis.specs.Answers.{assessmentOf}
 use borrow.Author.Needs.{needs}
 use Rattle.analysis.proofs.answer.Statement.{statement}
@@ -22,11 +20,7 @@ returns-2 : tie.Need-returns-2
 returns-2 c = simp (c .before .before .if1 .left, c .before .if2 .taken, c .assessment .ensures)
 
 passes-requires : tie.Need-passes-requires
-passes-requires c κs =
-    let given = c .before .before in
-    let good = given .pre (c .before .if1 .left) in
-    let some = good-table (given .args .table) good .interval in
-    (good, omega arith)
+passes-requires c κs = c .before .before .pre (c .before .if1 .left)
 
 no-times-requires-2 : tie.Need-no-times-requires-2
 no-times-requires-2 c κs = search needs

@@ -1,10 +1,11 @@
 -- `analysis::assess` meets its contract. Assumes nothing.
 use Prim.Native.Nat.{ℕ}
-use mathlib.Core.Path.{sym, ap₂, _∙_}
+use mathlib.Core.Path.{sym, ap₂, subst, _∙_}
 use mathlib.Core.List.{List}
 use Rattle.analysis.specs.Tasks.{tasksOf}
+use Rattle.analysis.specs.Allowed.{Within}
 use Rattle.analysis.specs.Answers.{assessmentOf, choiceAssessment, ownAssessment}
-use Rattle.analysis.proofs.Choice.{own-refusal}
+use Rattle.analysis.proofs.Choice.{own-allowed, own-refusal}
 use borrow.Author.Needs.{needs}
 use Rattle.analysis.proofs.assess.Statement.{statement}
 use Rattle.analysis.proofs.assess.Tie as tie
@@ -16,7 +17,11 @@ own-choice-requires : tie.Need-own-choice-requires
 own-choice-requires c κs = search needs
 
 answer-requires : tie.Need-answer-requires
-answer-requires c κs = λ good. sym (c .before .judge-table .ensures) ∙ good
+answer-requires c κs =
+    let table = c .before .before .args .table in
+    λ good.
+    let kept = sym (c .before .judge-table .ensures) ∙ good in
+    (kept, subst (Within table) (sym (c .own-choice .ensures)) (own-allowed table kept .each))
 
 returns : tie.Need-returns
 unfolding ownAssessment choiceAssessment

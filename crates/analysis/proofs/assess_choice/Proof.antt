@@ -1,10 +1,9 @@
 -- `analysis::assess_choice` meets its contract. Assumes nothing.
 use Prim.Native.Nat.{ℕ}
 use mathlib.Core.Path.{sym, ap, _∙_}
-use Rattle.sheet.specs.Rules.{tableRefusal}
-use Rattle.sheet.proofs.Turns.{none-of}
 use Rattle.analysis.specs.Tasks.{tasksOf}
-use Rattle.analysis.specs.Answers.{choiceRefusal, assessmentOf, choiceAssessment}
+use Rattle.analysis.specs.Answers.{assessmentOf, choiceAssessment}
+use Rattle.analysis.proofs.Choice.{choice-good}
 use borrow.Author.Needs.{needs}
 use Rattle.analysis.proofs.assess_choice.Statement.{statement}
 use Rattle.analysis.proofs.assess_choice.Tie as tie
@@ -13,8 +12,7 @@ judge-choice-requires : tie.Need-judge-choice-requires
 judge-choice-requires c κs = search needs
 
 answer-requires : tie.Need-answer-requires
-unfolding choiceRefusal
-answer-requires c κs = λ good. none-of (tableRefusal (c .before .args .table)) _ (sym (c .judge-choice .ensures) ∙ good) .0
+answer-requires c κs = λ good. choice-good (c .before .args .table) (c .before .args .choice) (search needs) (sym (c .judge-choice .ensures) ∙ good)
 
 returns : tie.Need-returns
 unfolding choiceAssessment

@@ -1,7 +1,6 @@
 -- `analysis::response::entry` meets its contract. Assumes nothing.
 use native.Mathlib.Omega.{arith}
 use Rattle.sheet.specs.Layout.{recordAt}
-use Rattle.sheet.proofs.Cases.{good-table}
 use Rattle.analysis.specs.Response.{responseTime}
 use Rattle.analysis.specs.Answers.{entryFrom, entryOf}
 use borrow.Author.Needs.{needs}
@@ -12,7 +11,7 @@ mul-deadline : tie.Need-mul-deadline
 mul-deadline c = search needs
 
 element-copy-out-deadline : tie.Need-element-copy-out-deadline
-element-copy-out-deadline c = omega (arith, good-table (c .args .t1) (c .pre .0) .count .1)
+element-copy-out-deadline c = omega (arith, c .pre .0 .few)
 
 wide-requires : tie.Need-wide-requires
 wide-requires c κs = search needs
@@ -20,8 +19,7 @@ wide-requires c κs = search needs
 response-requires : tie.Need-response-requires
 response-requires c κs =
     let given = c .before in
-    let some = good-table (given .args .t1) (given .pre .0) .interval in
-    (given .pre .0, omega arith, given .pre .1, c .wide .ensures .1)
+    (given .pre .0, given .pre .1, given .pre .2, given .pre .3, c .wide .ensures .1)
 
 outcome-requires : tie.Need-outcome-requires
 outcome-requires c κs = search needs

@@ -4,7 +4,6 @@ use mathlib.Core.Path.{ap, _∙_}
 use native.Mathlib.Omega.{arith}
 use lib.Dec.{eqb}
 use Rattle.sheet.specs.Layout.{recordAt}
-use Rattle.sheet.proofs.Cases.{good-table}
 use Rattle.analysis.specs.Tasks.{tasksOf}
 use Rattle.analysis.specs.Response.{responseWithin, responseTime}
 use Rattle.analysis.proofs.Limits.{late-cut}
@@ -16,7 +15,7 @@ mul-task : tie.Need-mul-task
 mul-task c = search needs
 
 element-copy-out-task : tie.Need-element-copy-out-task
-element-copy-out-task c = omega (arith, good-table (c .args .t1) (c .pre .0) .count .1)
+element-copy-out-task c = omega (arith, c .pre .0 .few)
 
 wide-requires : tie.Need-wide-requires
 wide-requires c κs = search needs
@@ -28,13 +27,13 @@ returns : tie.Need-returns
 unfolding recordAt responseTime
 returns c =
     let given = c .before .before .before in
-    let tasks = tasksOf (given .args .t1) (given .args .interval) (given .args .choice) in
-    let place = given .args .place in
+    let tasks = tasksOf (given .args .t1) (given .args .interval) (given .args .faults) in
+    let rank = given .args .rank in
     let deadline = c .before .wide .ensures .0 in
-    let within : recordAt (given .args .t1 .records) place .deadline ≤ 65535 = omega arith in
+    let within : recordAt (given .args .t1 .records) rank .deadline ≤ 65535 = omega arith in
     ap (λ (n : ℕ). eqb n 0) (c .response .ensures)
-    ∙ ap (λ (n : ℕ). eqb (responseWithin n tasks place) 0) deadline
-    ∙ late-cut (recordAt (given .args .t1 .records) place .deadline) 65535 within tasks place
+    ∙ ap (λ (n : ℕ). eqb (responseWithin n tasks rank) 0) deadline
+    ∙ late-cut (recordAt (given .args .t1 .records) rank .deadline) 65535 within tasks rank
 
 pub is-late-spec : {M : Type 1} → statement M
 is-late-spec =

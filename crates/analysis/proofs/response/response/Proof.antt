@@ -12,7 +12,7 @@ use Rattle.analysis.proofs.response.response.Tie as tie
 -- where neither time is missing, the larger is the response
 both : (c : tie.Else2)
     → let given = c .before .before .before .before in
-    max (c .before .before .before .elsewhere .result) (c .before .itself .result) ≡ responseWithin (given .args .limit) (tasksOf (given .args .table) (given .args .interval) (given .args .choice)) (given .args .place)
+    max (c .before .before .before .elsewhere .result) (c .before .itself .result) ≡ responseWithin (given .args .limit) (tasksOf (given .args .table) (given .args .interval) (given .args .faults)) (given .args .rank)
 both c =
     let one = c .before .before in
     let first = one .before .elsewhere .ensures .0 in

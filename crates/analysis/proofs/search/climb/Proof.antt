@@ -22,7 +22,8 @@ loop-holds c =
 
 asked-requires : tie.Need-asked-requires Inv-loop μ-loop
 asked-requires c κs =
-    (c .before .before .pre .0, c .before .before .pre .1, omega arith, c .before .before .pre .2)
+    let given = c .before .before .pre in
+    (given .0, given .1, given .2, given .3, given .4, omega arith)
 
 returns : tie.Need-returns Inv-loop μ-loop
 returns c =

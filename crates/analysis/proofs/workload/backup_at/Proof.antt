@@ -6,15 +6,11 @@ use Rattle.analysis.proofs.workload.backup_at.Tie as tie
 
 returns : tie.Need-returns
 unfolding backupOf
-returns c = simp (c .before .if1 .taken, le-leb _ _ (c .if2 .taken))
+returns c = simp (le-leb _ _ (c .if1 .taken))
 
 returns-2 : tie.Need-returns-2
 unfolding backupOf
-returns-2 c = simp (c .before .if1 .taken, lt-leb _ _ (c .if2 .left))
-
-returns-3 : tie.Need-returns-3
-unfolding backupOf
-returns-3 c = simp (c .if1 .left)
+returns-2 c = simp (lt-leb _ _ (c .if1 .left))
 
 pub backup-at-spec : {M : Type 1} → statement M
-backup-at-spec = tie.close (tie.spec returns returns-2 returns-3)
+backup-at-spec = tie.close (tie.spec returns returns-2)

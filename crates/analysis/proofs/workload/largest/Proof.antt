@@ -1,30 +1,29 @@
--- `analysis::workload::largest` meets its contract: before each turn the largest of the places below is known. Assumes nothing.
+-- `analysis::workload::largest` meets its contract: before each turn the largest of the ranks below is known. Assumes nothing.
 use Prim.Native.Nat.{ℕ, _≤_, _-_, max}
 use mathlib.Core.Path.{_≡_, sym, ap, ap₂, _∙_}
+use mathlib.Core.Bool.{true}
 use mathlib.Core.List.{List}
 use native.Mathlib.Omega.{arith}
-use Rattle.sheet.specs.declared.Record.{Record}
 use lib.ListN.{getD}
+use Rattle.sheet.specs.declared.Record.{Record}
 use Rattle.sheet.specs.Layout.{recordAt}
 use Rattle.analysis.specs.Totals.{mostBelow}
-use Rattle.analysis.specs.Backups.{others, backupOf, largestBackup}
+use Rattle.analysis.specs.Backups.{backupOf}
+use Rattle.analysis.specs.Demand.{largestBefore}
 use Rattle.analysis.proofs.Totalled.{most-more}
 use borrow.Author.Needs.{needs}
 use Rattle.analysis.proofs.workload.largest.Statement.{statement}
 use Rattle.analysis.proofs.workload.largest.Tie as tie
 
--- what each place brings
-abbrev backups : List Record → List ℕ → ℕ → ℕ → ℕ → ℕ
-backups records choice omitted level k = backupOf (recordAt records k) (others omitted k) (getD choice k 0) level
+-- what each rank brings
+abbrev backups : List Record → List ℕ → ℕ → ℕ → ℕ
+backups records faults level k = backupOf (recordAt records k) true (getD faults k 0) level
 
 abbrev Inv-loop : tie.InvT-loop
-Inv-loop omitted level table choice count most₀ place₀ most place = (place ≤ count) × (most ≡ mostBelow (backups (table .records) choice omitted level) place)
+Inv-loop until level table faults most₀ rank₀ most rank = (rank ≤ until) × (most ≡ mostBelow (backups (table .records) faults level) rank)
 
 abbrev μ-loop : tie.MeasureT-loop
-μ-loop omitted level table choice count most₀ place₀ most place = count - place
-
-cast-count : tie.Need-cast-count Inv-loop μ-loop
-cast-count c = search needs
+μ-loop until level table faults most₀ rank₀ most rank = until - rank
 
 loop-holds : tie.Need-loop-holds Inv-loop μ-loop
 unfolding mostBelow
@@ -34,12 +33,10 @@ mul-backup-at : tie.Need-mul-backup-at Inv-loop μ-loop
 mul-backup-at c = search needs
 
 element-copy-out-backup-at : tie.Need-element-copy-out-backup-at Inv-loop μ-loop
-element-copy-out-backup-at c =
-    search needs
+element-copy-out-backup-at c = search needs
 
 array-read-backup-at : tie.Need-array-read-backup-at Inv-loop μ-loop
-array-read-backup-at c =
-    search needs
+array-read-backup-at c = search needs
 
 backup-at-requires : tie.Need-backup-at-requires Inv-loop μ-loop
 backup-at-requires c κs = search needs
@@ -47,28 +44,28 @@ backup-at-requires c κs = search needs
 larger-requires : tie.Need-larger-requires Inv-loop μ-loop
 larger-requires c κs = search needs
 
-add-place : tie.Need-add-place Inv-loop μ-loop
-add-place c = search needs
+add-rank : tie.Need-add-rank Inv-loop μ-loop
+add-rank c = search needs
 
 loop-less : tie.Need-loop-less Inv-loop μ-loop
 loop-less c = search needs
 
 loop-again : tie.Need-loop-again Inv-loop μ-loop
-unfolding recordAt others
+unfolding recordAt
 loop-again c =
     let turn = c .before .before .before in
     let at = turn .before .loop in
     let given = turn .before .before in (
       search needs,
-      c .larger .ensures ∙ ap₂ max (at .inv .1) (c .before .backup-at .ensures) ∙ sym (most-more (backups (given .args .t1 .records) (given .args .t2) (given .args .omitted) (given .args .level)) (at .place)),
+      c .larger .ensures ∙ ap₂ max (at .inv .1) (c .before .backup-at .ensures) ∙ sym (most-more (backups (given .args .t1 .records) (given .args .t2) (given .args .level)) (at .rank)),
     )
 
 returns : tie.Need-returns Inv-loop μ-loop
-unfolding largestBackup
+unfolding largestBefore
 returns c =
     let given = c .before .before in
-    let all : c .before .loop .place ≡ given .args .t1 .count = omega arith in
-    c .before .loop .inv .1 ∙ ap (mostBelow (backups (given .args .t1 .records) (given .args .t2) (given .args .omitted) (given .args .level))) all
+    let all : c .before .loop .rank ≡ given .args .until = omega arith in
+    c .before .loop .inv .1 ∙ ap (mostBelow (backups (given .args .t1 .records) (given .args .t2) (given .args .level))) all
 
 pub largest-spec : {M : Type 1} → statement M
 largest-spec =
@@ -76,14 +73,13 @@ largest-spec =
     (tie.spec
     Inv-loop
     μ-loop
-    cast-count
     loop-holds
     mul-backup-at
     element-copy-out-backup-at
     array-read-backup-at
     backup-at-requires
     larger-requires
-    add-place
+    add-rank
     loop-less
     loop-again
     returns)
