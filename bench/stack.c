@@ -20,6 +20,7 @@ static uint8_t output[FQ_LIST_BYTES];
 static const uint8_t log_bytes[] = {255, 128, 0, 0, 0, 0};
 static const uint8_t record_bytes[] = {0, 0, 0, 255, 128, 8};
 static uint64_t counts[FQ_COUNTS];
+static uint64_t changes[FQ_CHANGES_NUMBERS];
 static int32_t figure;
 static const uint32_t starts[] = {5, 6, 20, 3};
 static const uint8_t uses[] = {0, 1};
@@ -45,6 +46,7 @@ static void short_list(void) { fq_list(sheet, length, output, 40); }
 static void replay(void) { fq_replay(sheet, length, log_bytes, sizeof log_bytes, counts, FQ_COUNTS); }
 static void check(void) { fq_check(sheet, length, record_bytes, sizeof record_bytes); }
 static void grant(void) { fq_grant(40, 2, starts, 4, uses, 2, resources, sizeof resources, 1, 3, 0, 11, &margin, 1); }
+static void mend(void) { fq_mend(sheet, sizeof sheet, output, sizeof output, changes, FQ_CHANGES_NUMBERS); }
 
 /* How many bytes of stack a call takes, the switch to it included. */
 static size_t depth(void (*call)(void))
@@ -71,7 +73,7 @@ int main(void)
     } calls[] = {
         {"fq_judge", judge}, {"fq_write", write}, {"fq_write_shared", write_shared}, {"fq_rewrite", rewrite}, {"fq_record", record},
         {"fq_response", response}, {"fq_slack", slack}, {"fq_verdict", verdict},
-        {"fq_least_interval", least_interval}, {"fq_next", next}, {"fq_list", list}, {"fq_list, no room", short_list}, {"fq_replay", replay}, {"fq_check", check}, {"fq_grant", grant},
+        {"fq_least_interval", least_interval}, {"fq_next", next}, {"fq_list", list}, {"fq_list, no room", short_list}, {"fq_replay", replay}, {"fq_check", check}, {"fq_grant", grant}, {"fq_mend", mend},
     };
     const uint16_t intervals[] = {everyday.interval, 1};
     size_t empty = depth(nothing);

@@ -17,7 +17,7 @@
  *
  * Memory and time: no heap, no state, no call of anything outside the library; FQ_STACK_BYTES bounds the stack.
  * The x86-64 code uses the SSE registers, so whoever calls it where these are not saved (a kernel, an
- * interrupt handler) saves them first. fq_judge, fq_write, fq_rewrite, fq_record and fq_grant take about a microsecond;
+ * interrupt handler) saves them first. fq_judge, fq_write, fq_rewrite, fq_record and fq_grant take about a microsecond, fq_mend a few;
  * fq_response, fq_slack and fq_verdict microseconds to milliseconds; fq_least_interval, fq_next and fq_list judge up to
  * 65535 intervals or 40320 choices and CAN TAKE MINUTES on a sheet of eight tasks (docs/PERFORMANCE.md). Where the
  * lowest task, of priority 1, is late, no choice passes, and fq_next and fq_list say so from that one response.
@@ -35,7 +35,7 @@ extern "C" {
 #endif
 
 /* The version of this header and library; `./desk --version` prints the same. */
-#define FQ_VERSION "1.10.0"
+#define FQ_VERSION "1.11.0"
 
 /*
  * What a refused call gives, in the order in which the rules are tried: the number of the first rule broken,
@@ -89,6 +89,17 @@ enum fq_count {
 /* How many numbers fq_grant takes for each job in `starts`, and how many bytes in `resources`. */
 #define FQ_JOB_NUMBERS 2
 #define FQ_RESOURCES_BYTES 16
+
+/* What a change of fq_mend is made to. */
+enum fq_field {
+    FQ_LENGTH,
+    FQ_DEADLINE,
+    FQ_FAULT_PRIORITY
+};
+
+/* How many numbers fq_mend writes for each change, and how many there are room for at the most: 17 changes after their number. */
+#define FQ_CHANGE_NUMBERS 4
+#define FQ_CHANGES_NUMBERS 69
 
 /* How many numbers fq_write takes for each record: cost, backup, deadline, period, priority, fault priority. */
 #define FQ_RECORD_NUMBERS 6
@@ -212,6 +223,19 @@ int64_t fq_check(const uint8_t *sheet, size_t len, const uint8_t *record, size_t
 int64_t fq_grant(uint32_t period, uint8_t count, const uint32_t *starts, size_t starts_len, const uint8_t *uses,
                  size_t uses_len, const uint8_t *resources, size_t resources_len, uint8_t priority, uint64_t time,
                  uint8_t resource, uint32_t length, int64_t *margin, size_t margin_len);
+
+/*
+ * Mends a hand-typed sheet by three changes and no others: bytes after the last record are cut, a deadline above its
+ * period is brought down to the period, and a fault priority above the task's own, or zero, is brought to its own. All
+ * are made before the sheet is judged. A good sheet comes back as the same bytes, without a change.
+ * Answer: how many bytes of the mended sheet were written (at most FQ_SHEET_BYTES), or minus the refusal: the first rule
+ * still broken (1 to 10 or 18), and last 11 where either output is shorter than what is to be written; then neither is
+ * touched. `changes[0]` is how many changes there are, then four numbers each: place (0 for the length, then records
+ * from 1), field (enum fq_field), old and new value; the cut first, then records by place, deadline before fault
+ * priority. `changes_len` is how many numbers have room; FQ_CHANGES_NUMBERS are always enough. `out` and `changes` do not
+ * overlap.
+ */
+int64_t fq_mend(const uint8_t *sheet, size_t len, uint8_t *out, size_t out_len, uint64_t *changes, size_t changes_len);
 
 #ifdef __cplusplus
 }

@@ -10,7 +10,7 @@
 
 enum { MOST_REPORTS = 20 };
 
-static const char *const KINDS[] = {[CODEC] = "codec", [ANALYSIS] = "analysis", [REPLAY] = "replay", [LOCK] = "lock"};
+static const char *const KINDS[] = {[CODEC] = "codec", [ANALYSIS] = "analysis", [REPLAY] = "replay", [LOCK] = "lock", [MEND] = "mend"};
 
 /* One call with both its answers, as a report of a difference shows it. */
 struct call {
@@ -383,6 +383,32 @@ void check_granting(struct comparison *comparison, const struct asking *asking, 
     call.library = grant(asking, &found, 1);
     settle(comparison, &call, "answer", call.library == answer);
     settle(comparison, &call, "margin", found == margin);
+}
+
+/* Compares the mending of the sheet, in an output of a length and room for so many numbers of the changes. */
+int64_t check_mend(struct comparison *comparison, size_t out_len, size_t changes_len)
+{
+    uint64_t before[CHANGES_ROOM], library[CHANGES_ROOM], *plain = comparison->changes_of_plain;
+    const uint8_t *sheet = laid(comparison);
+    struct call call = {.function = "fq_mend", .argument = changes_len};
+    lend(comparison, out_len);
+    random_bytes(&comparison->generator, (uint8_t *)before, sizeof before);
+    memcpy(library, before, sizeof before);
+    memcpy(plain, before, sizeof before);
+    call.library = fq_mend(sheet, comparison->sheet_length, comparison->lent_to_library + MARGIN, out_len, library + 1, changes_len);
+    call.plain = plain_mend(sheet, comparison->sheet_length, comparison->lent_to_plain + MARGIN, out_len, plain + 1, changes_len);
+    settle_lent(comparison, &call, out_len);
+    settle(comparison, &call, "changes", memcmp(library, plain, sizeof library) == 0);
+    if (call.plain < 0) {
+        settle(comparison, &call, "changes of a refused call", memcmp(library, before, sizeof before) == 0);
+    }
+    return call.plain;
+}
+
+/* The first number that the plain desk wrote. */
+uint64_t listed_changes(const struct comparison *comparison)
+{
+    return comparison->changes_of_plain[1];
 }
 
 /* Puts the four bytes of an entry together, the first one highest. */

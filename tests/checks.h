@@ -19,11 +19,12 @@ enum {
     ARENA_ROOM = LENT_ROOM + 2 * MARGIN,
     COUNTS_ROOM = 16,
     SLACKS_ROOM = 4,
-    MARGINS_ROOM = 4
+    MARGINS_ROOM = 4,
+    CHANGES_ROOM = FQ_CHANGES_NUMBERS + 4
 };
 
 /* The kinds of rounds. */
-enum round_kind { CODEC, ANALYSIS, REPLAY, LOCK };
+enum round_kind { CODEC, ANALYSIS, REPLAY, LOCK, MEND };
 
 /* The state of a whole run: which round it is in, what it lends to the calls, and what was found so far. */
 struct comparison {
@@ -41,6 +42,7 @@ struct comparison {
     uint8_t lent_before[ARENA_ROOM];
     uint8_t lent_to_library[ARENA_ROOM];
     uint8_t lent_to_plain[ARENA_ROOM];
+    uint64_t changes_of_plain[CHANGES_ROOM];
 };
 
 /* What fq_write_shared is given, and all but the share fq_write, apart from the output. */
@@ -77,12 +79,16 @@ int64_t check_grant(struct comparison *comparison, const struct asking *asking, 
 
 /* Checks that the library's answer to a request, and its margin, are the expected ones; the plain desk is not asked. */
 void check_granting(struct comparison *comparison, const struct asking *asking, int64_t answer, int64_t margin);
+int64_t check_mend(struct comparison *comparison, size_t out_len, size_t changes_len);
 
 /* Checks that the library's step after a choice is the expected one; the plain desk is not asked again. */
 void check_step(struct comparison *comparison, uint32_t after, int64_t expected);
 
 /* Checks that the library's least interval is the expected one; the plain desk is not asked. */
 void check_interval(struct comparison *comparison, int64_t expected);
+
+/* How many changes the plain desk listed last. */
+uint64_t listed_changes(const struct comparison *comparison);
 
 /* The entry at an index of the list that the plain desk wrote last. */
 uint32_t listed_entry(const struct comparison *comparison, size_t index);

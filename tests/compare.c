@@ -21,6 +21,8 @@ enum {
     CODEC_SHEETS_FOR_LOG = 4,
     /* One request for a lock is asked for so many. */
     CODEC_SHEETS_FOR_LOCK = 2,
+    /* One sheet typed by hand is mended for so many. */
+    CODEC_SHEETS_FOR_TYPED_SHEET = 4,
     /* The first refusal of a log or a record, and the one after the others that only a sheet can have. */
     FIRST_OF_LOGS = 14,
     BAD_SHARE = 18,
@@ -35,11 +37,11 @@ static void print_usage(FILE *stream)
     fprintf(stream,
             "usage: compare [SEED [COUNT]]\n"
             "Runs COUNT random sheets through reading and writing, COUNT / %d through the analysis and\n"
-            "COUNT / %d logs and as many supplier's records through the replay, and asks for COUNT / %d locks, each through the library\n"
-            "and through a plain implementation, and compares the answers.\n"
+            "COUNT / %d logs and as many supplier's records through the replay, asks for COUNT / %d locks, and mends COUNT / %d sheets\n"
+            "typed by hand, each through the library and through a plain implementation, and compares the answers.\n"
             "SEED and COUNT are whole numbers; the defaults are %d and %d.\n"
             "Status: 0 no difference, 1 a difference or nothing run, 2 bad arguments.\n",
-            CODEC_SHEETS_FOR_ANALYSIS_SHEET, CODEC_SHEETS_FOR_LOG, CODEC_SHEETS_FOR_LOCK, DEFAULT_SEED, DEFAULT_COUNT);
+            CODEC_SHEETS_FOR_ANALYSIS_SHEET, CODEC_SHEETS_FOR_LOG, CODEC_SHEETS_FOR_LOCK, CODEC_SHEETS_FOR_TYPED_SHEET, DEFAULT_SEED, DEFAULT_COUNT);
 }
 
 /* Reads a whole number of decimal digits only. */
@@ -74,14 +76,17 @@ static void print_tally(const struct comparison *comparison, const struct tally 
     print_answers("requests for locks by refusal of fq_grant", tally->locks, LOCK_JUDGEMENTS);
     printf("locks granted: %" PRIu64 ", margins above 0: %" PRIu64 ", below 0: %" PRIu64 "\n", tally->granted,
            tally->positive_margins, tally->negative_margins);
+    print_answers("sheets typed by hand by refusal of fq_mend", tally->mended, JUDGEMENTS);
+    printf("sheets mended without a change: %" PRIu64 ", changes: %" PRIu64 ", the most of one sheet: %" PRIu64 "\n",
+           tally->unchanged, tally->changes, tally->most_changes);
     printf("slacks with a figure: %" PRIu64 ", least intervals of none: %" PRIu64 ", listed choices: %" PRIu64 "\n",
            tally->figures, tally->least_intervals_of_none, tally->listed_choices);
     printf("lists where the lowest task is late: %" PRIu64 ", other empty lists: %" PRIu64 "\n", tally->lists_with_lowest_late,
            tally->other_empty_lists);
     printf("%" PRIu64 " codec sheets, %" PRIu64 " analysis sheets (%" PRIu64 " pass, %" PRIu64 " do not), ",
            tally->codec_sheets, tally->analysis_sheets, tally->passing, tally->late);
-    printf("%" PRIu64 " least intervals, %" PRIu64 " lists (%" PRIu64 " of eight tasks), %" PRIu64 " logs, %" PRIu64 " requests for locks, ",
-           tally->least_intervals, tally->lists, tally->lists_of_eight, tally->logs, tally->requests);
+    printf("%" PRIu64 " least intervals, %" PRIu64 " lists (%" PRIu64 " of eight tasks), %" PRIu64 " logs, %" PRIu64 " requests for locks, %" PRIu64 " sheets typed by hand, ",
+           tally->least_intervals, tally->lists, tally->lists_of_eight, tally->logs, tally->requests, tally->typed);
     printf("%" PRIu64 " checks, %" PRIu64 " differences\n", comparison->checks, comparison->differences);
 }
 
@@ -104,7 +109,7 @@ static bool every_kind_run(const struct tally *tally)
            tally->late > 0 && tally->least_intervals > 0 && tally->lists > tally->lists_of_eight &&
            tally->lists_of_eight > 0 && tally->lists_with_lowest_late > 0 &&
            tally->lists_with_lowest_late < tally->lists && tally->replayed[0] > 0 && tally->accepted > 0 && tally->differing > 0 &&
-           every_lock_run(tally);
+           every_lock_run(tally) && tally->unchanged > 0 && tally->unchanged < tally->mended[0] && tally->mended[0] < tally->typed;
 }
 
 /* Runs all rounds, prints what was found, and gives the status of the program. */
@@ -124,6 +129,9 @@ static int run(struct comparison *comparison)
     lock_edge_round(comparison);
     for (uint64_t round = 0; round < comparison->count / CODEC_SHEETS_FOR_LOCK; round++) {
         lock_round(comparison, &tally, round);
+    }
+    for (uint64_t round = 0; round < comparison->count / CODEC_SHEETS_FOR_TYPED_SHEET; round++) {
+        mend_round(comparison, &tally, round);
     }
     print_tally(comparison, &tally);
     if (!every_kind_run(&tally)) {

@@ -26,6 +26,9 @@ int64_t plain_replay(const uint8_t *sheet, size_t len, const uint8_t *log, size_
                      size_t counts_len);
 int64_t plain_check(const uint8_t *sheet, size_t len, const uint8_t *record, size_t record_len);
 
+int64_t plain_mend(const uint8_t *sheet, size_t len, uint8_t *out, size_t out_len, uint64_t *changes,
+                   size_t changes_len);
+
 /* Makes each tick of a supplier's record show what ran; a record that is refused stays as it is. */
 void plain_show(const uint8_t *sheet, size_t len, uint8_t *record, size_t record_len);
 

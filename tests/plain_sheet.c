@@ -2,7 +2,7 @@
 #include "plain_sheet.h"
 
 /* Takes the next bits of the bytes, most significant first, and moves the position past them. */
-static uint64_t take_bits(const uint8_t *bytes, size_t *position, unsigned width)
+uint64_t take_bits(const uint8_t *bytes, size_t *position, unsigned width)
 {
     uint64_t value = 0;
     for (unsigned taken = 0; taken < width; taken++) {

@@ -56,6 +56,9 @@ struct table {
     struct record records[MOST_TASKS];
 };
 
+/* Takes the next bits of the bytes, most significant first, and moves the position past them. */
+uint64_t take_bits(const uint8_t *bytes, size_t *position, unsigned width);
+
 /* Puts a value of so many bits at the position, most significant first, and moves the position past it. */
 void put_bits(uint8_t *bytes, size_t *position, unsigned width, uint64_t value);
 

@@ -399,7 +399,34 @@ void replay_round(struct comparison *comparison, struct tally *tally, uint64_t r
     record_round(comparison, tally, &draft, round);
 }
 
-/* Judges and rewrites a good sheet's bytes, repeated, at every length from 0 to one past the longest, in both editions and at every count. */
+/* Mends a sheet typed by hand into outputs that are longer, just long enough and too short, for the sheet and for its changes. */
+void mend_round(struct comparison *comparison, struct tally *tally, uint64_t round)
+{
+    struct generator *generator = &comparison->generator;
+    start_round(comparison, MEND, round);
+    struct draft draft = wide_draft(generator);
+    struct sheet sheet = mistyped_sheet(generator, &draft);
+    lay_sheet(comparison, sheet.bytes, sheet.length);
+    int64_t answer = check_mend(comparison, SHEET_ROOM, FQ_CHANGES_NUMBERS);
+    tally->typed++;
+    tally->mended[answer < 0 ? -answer : 0]++;
+    if (answer < 0) {
+        check_mend(comparison, random_below(generator, SHEET_ROOM), random_below(generator, FQ_CHANGES_NUMBERS));
+        return;
+    }
+    uint64_t changes = listed_changes(comparison);
+    size_t size = (size_t)answer, numbers = 1 + FQ_CHANGE_NUMBERS * (size_t)changes;
+    check_mend(comparison, size, numbers);
+    check_mend(comparison, size - 1, numbers);
+    check_mend(comparison, size, numbers - 1);
+    check_mend(comparison, random_below(generator, size), random_below(generator, numbers));
+    check_mend(comparison, size + random_below(generator, MARGIN), numbers + random_below(generator, 3));
+    tally->unchanged += changes == 0;
+    tally->changes += changes;
+    tally->most_changes = changes > tally->most_changes ? changes : tally->most_changes;
+}
+
+/* Judges, rewrites and mends a good sheet's bytes, repeated, at every length from 0 to one past the longest, in both editions and at every count. */
 static void check_lengths(struct comparison *comparison)
 {
     static const uint8_t header[] = {0x00, 0x00, 0x64, 0x00, 0x14, 0x00, 0x13};
@@ -417,7 +444,30 @@ static void check_lengths(struct comparison *comparison)
             lay_sheet(comparison, bytes, length);
             check_judge(comparison);
             check_rewrite(comparison, length);
+            check_mend(comparison, length, FQ_CHANGES_NUMBERS);
         }
+    }
+}
+
+/* Mends sheets of eight tasks in which every deadline and every fault priority is mistyped and a byte is added: seventeen changes, in both editions. */
+static void check_most_changes(struct comparison *comparison)
+{
+    static const uint8_t header[] = {0x80, 0x00, 0x64, 0x00, 0x14, 0x00, 0x13};
+    uint8_t bytes[FQ_SHEET_BYTES + 1];
+    for (unsigned edition = 0; edition < 2; edition++) {
+        size_t start = edition == 1 ? SHARED_HEADER_BYTES : HEADER_BYTES;
+        size_t end = start + RECORD_BYTES * MOST_TASKS;
+        memcpy(bytes, header, start);
+        bytes[0] = (uint8_t)(header[0] + edition);
+        for (unsigned place = 0; place < MOST_TASKS; place++) {
+            const uint8_t record[] = {0x00, 0x01, 0x00, 0x02, 0xFF, 0xFF, 0xFF, 0xFE, (uint8_t)(0x10 * (place + 1))};
+            memcpy(bytes + start + RECORD_BYTES * place, record, sizeof record);
+        }
+        bytes[end] = 0;
+        lay_sheet(comparison, bytes, end + 1);
+        check_mend(comparison, end, FQ_CHANGES_NUMBERS);
+        check_mend(comparison, end, FQ_CHANGES_NUMBERS - 1);
+        check_mend(comparison, end - 1, FQ_CHANGES_NUMBERS);
     }
 }
 
@@ -436,6 +486,7 @@ void edge_round(struct comparison *comparison)
     lay_sheet(comparison, none, sizeof none);
     check_interval(comparison, 0);
     check_lengths(comparison);
+    check_most_changes(comparison);
 }
 
 /* One job of a period of 2^32 - 1, in its last tick or filling all but its first, asked for at times up to 2^64 - 1; the answers are written down. */

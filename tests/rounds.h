@@ -1,7 +1,7 @@
 /*
  * The kinds of rounds of the comparison: codec rounds, which read, write and damage sheets, analysis rounds,
- * which ask for times, verdicts, intervals and choices, replay rounds, which replay logs and check records, and lock rounds,
- * which ask for locks.
+ * which ask for times, verdicts, intervals and choices, replay rounds, which replay logs and check records, lock rounds,
+ * which ask for locks, and mend rounds, which mend sheets typed by hand.
  */
 #ifndef ROUNDS_H
 #define ROUNDS_H
@@ -35,9 +35,14 @@ struct tally {
     uint64_t granted;
     uint64_t negative_margins;
     uint64_t positive_margins;
+    uint64_t typed;
+    uint64_t mended[JUDGEMENTS];
+    uint64_t unchanged;
+    uint64_t changes;
+    uint64_t most_changes;
 };
 
-/* Checks the least intervals at the far end, which random sheets do not reach, and sheets of every length. */
+/* Checks the least intervals at the far end and the most changes of a sheet, which random sheets do not reach, and sheets of every length. */
 void edge_round(struct comparison *comparison);
 
 /* Runs one codec round. */
@@ -54,5 +59,8 @@ void lock_edge_round(struct comparison *comparison);
 
 /* Runs one lock round. */
 void lock_round(struct comparison *comparison, struct tally *tally, uint64_t round);
+
+/* Runs one mend round. */
+void mend_round(struct comparison *comparison, struct tally *tally, uint64_t round);
 
 #endif

@@ -11,7 +11,7 @@
 #include <stdlib.h>
 #include <string.h>
 
-enum { LONGEST_LINE = 1 << 16, MOST_WORDS = 16, ANSWER_ROOM = 512 };
+enum { LONGEST_LINE = 1 << 16, MOST_WORDS = 16, ANSWER_ROOM = 1024 };
 
 /* A row taken apart: what is asked, and how the library answers it. */
 struct row {
@@ -191,6 +191,41 @@ static void answer_locks(struct row *row)
     add_number(row, margin);
 }
 
+/* Adds bytes in hexadecimal to the answer. */
+static void add_bytes(struct row *row, const uint8_t *bytes, size_t length)
+{
+    char word[2 * FQ_SHEET_BYTES + 1] = "";
+    for (size_t index = 0; index < length; index++) {
+        snprintf(word + 2 * index, 3, "%02x", (unsigned)bytes[index]);
+    }
+    add_word(row, word);
+}
+
+/* SHEET: the refusal, and where there is none the mended sheet and its changes, each place:field:old:new. */
+static void answer_mend(struct row *row)
+{
+    static const char *const fields[] = {[FQ_LENGTH] = "length", [FQ_DEADLINE] = "deadline", [FQ_FAULT_PRIORITY] = "fault"};
+    static struct bytes sheet;
+    uint8_t mended[FQ_SHEET_BYTES];
+    uint64_t changes[FQ_CHANGES_NUMBERS];
+    char list[ANSWER_ROOM] = "-";
+    read_bytes(row->word[0], &sheet);
+    int64_t written = fq_mend(sheet.at, sheet.length, mended, sizeof mended, changes, FQ_CHANGES_NUMBERS);
+    add_number(row, written < 0 ? -written : 0);
+    if (written < 0) {
+        add_word(row, "- -");
+        return;
+    }
+    add_bytes(row, mended, (size_t)written);
+    size_t length = 0;
+    for (size_t index = 0; index < changes[0]; index++) {
+        const uint64_t *change = changes + 1 + FQ_CHANGE_NUMBERS * index;
+        length += (size_t)snprintf(list + length, sizeof list - length, "%s%" PRIu64 ":%s:%" PRIu64 ":%" PRIu64, index == 0 ? "" : ",",
+                                   change[0], fields[change[1]], change[2], change[3]);
+    }
+    add_word(row, list);
+}
+
 /* What answers the rows of a file, by the end of its name, and how many words are asked. */
 static const struct kind {
     const char *name;
@@ -202,6 +237,7 @@ static const struct kind {
     {"ask-06-share.txt", 1, answer_slack},
     {"ask-07-record.txt", 2, answer_record},
     {"ask-09-locks.txt", 8, answer_locks},
+    {"ask-11-mend.txt", 1, answer_mend},
 };
 
 /* The kind of a file. */

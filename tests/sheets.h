@@ -73,4 +73,8 @@ struct sheet packed(const struct draft *draft);
 /* The sheet of a draft with some damage done to it; a rule or a count is broken in the draft as well. */
 struct sheet damaged_sheet(struct generator *generator, struct draft *draft, enum damage damage);
 
+/* The sheet of a draft as it is typed by hand: deadlines above their periods, fault priorities at and past their edges,
+ * often bytes after the last record, now and then another rule broken or the last byte missing. */
+struct sheet mistyped_sheet(struct generator *generator, struct draft *draft);
+
 #endif

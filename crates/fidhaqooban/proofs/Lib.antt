@@ -7,6 +7,7 @@ pub mod Replayed
 pub mod Checked
 pub mod Lent
 pub mod Locked
+pub mod Changed
 pub mod SecondJob
 pub mod Written
 pub mod Chosen

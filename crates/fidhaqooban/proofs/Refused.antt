@@ -1,23 +1,26 @@
 -- What each function says, in the header's words and document 01's: minus the refusal's number, beside an output that stays as it was, or the value;
 -- and when 11 and 13 are given. Assumes nothing.
 use Prim.Native.Nat.{ℕ, _+_, _*_, _<_}
-use mathlib.Core.Path.{_≡_, refl, _∙_}
+use mathlib.Core.Path.{_≡_, refl, sym, ap, _∙_}
 use mathlib.Core.Bool.{Bool, true, false, cond}
 use mathlib.Core.List.{List, [], _∷_, _++_}
-use mathlib.Core.Logic.{_↔_, ⊎-elim}
+use mathlib.Core.Logic.{_⊎_, _↔_, ⊎-elim}
 use native.Mathlib.Decide.{ℕ-discrete}
+use native.Mathlib.Numerals.{one-add}
 use native.Mathlib.Omega.{arith}
 use borrow.Author.Tests.{eq-eqb, ne-eqb}
 use lib.Dec.{ltb}
 use lib.IntN.{ℤ, pos, negℤ}
-use lib.ListN.{length, set, drop}
+use lib.ListN.{length, getD, set, take, drop}
+use Rattle.sheet.specs.Places.{orElse}
 use Rattle.sheet.specs.Layout.{headerSize, sizeOf, countOf, startOf, isWhole, editionFor, tableSize, tableOf}
 use Rattle.sheet.specs.Rules.{sheetRefusal}
 use Rattle.sheet.specs.Answers.{writeRefusal, placeRefusal}
-use Rattle.sheet.proofs.Tells.{ltb-tells, eqb-tells}
-use Rattle.sheet.proofs.Turns.{next-of}
+use Rattle.sheet.proofs.Tells.{Tells, holds, fails, ltb-tells, eqb-tells, or-tells}
+use Rattle.sheet.proofs.Turns.{first-of, next-of}
 use Rattle.sheet.proofs.Order.{sheet-in-order}
 use Rattle.sheet.proofs.Demands.{table-good}
+use Rattle.sheet.proofs.Return.{run-at}
 use Rattle.sheet.proofs.Refused.{tried-last, given-if, write-refused-leaves}
 use Rattle.analysis.specs.declared.Slack.the-variants.{Figure, NoFigure}
 use Rattle.analysis.specs.Response.{responseTime, late, passes}
@@ -28,11 +31,14 @@ use Rattle.choices.specs.Order.{afterOf}
 use Rattle.choices.specs.Answers.{walkRefusal, listRefusal}
 use Rattle.choices.proofs.Demands.{Zero, start-13}
 use Rattle.choices.proofs.Refused.{list-11, list-refused-leaves}
-use Rattle.fidhaqooban.specs.Numbers.{answerOf, tableFrom, givenTable, timeOf, figuresOf, figureIn, entriesOf, choiceOf, countNumbers}
+use Rattle.mend.specs.declared.Change.{Change}
+use Rattle.mend.specs.Mended.{mended}
+use Rattle.mend.specs.Changes.{noChange, changesOf}
+use Rattle.fidhaqooban.specs.Numbers.{answerOf, tableFrom, givenTable, timeOf, figuresOf, figureIn, entriesOf, choiceOf, countNumbers, changeNumbers, changesFrom, changesNumbers}
 use Rattle.replay.specs.Machines.{machineOf}
 use Rattle.replay.specs.Shown.{matching}
 use Rattle.replay.specs.Answers.{replayAnswer, checkRefusal}
-use Rattle.fidhaqooban.specs.Answers.{writeSharedNumber, writeSharedLeft, writeNumber, writeLeft, rewriteRefusal, rewriteNumber, rewriteLeft, recordNumber, responseNumber, slackRefusal, slackNumber, slackLeft, verdictNumber, intervalNumber, firstNumber, nextRefusal, nextNumber, listingRefusal, listNumber, listLeft, replayedRefusal, replayNumber, replayLeft, checkNumber}
+use Rattle.fidhaqooban.specs.Answers.{writeSharedNumber, writeSharedLeft, writeNumber, writeLeft, rewriteRefusal, rewriteNumber, rewriteLeft, recordNumber, responseNumber, slackRefusal, slackNumber, slackLeft, verdictNumber, intervalNumber, firstNumber, nextRefusal, nextNumber, listingRefusal, listNumber, listLeft, replayedRefusal, replayNumber, replayLeft, checkNumber, mendingRefusal, mendNumber, mendLeft, mendListed}
 use Rattle.locks.specs.declared.Starts.{Starts}
 use Rattle.locks.specs.declared.Resource.{Resource}
 use Rattle.locks.specs.declared.Request.{Request}
@@ -222,3 +228,35 @@ pub lock-11 : (starts : Starts) (resources : List Resource) (request : Request) 
 unfolding lockRefusal grantAnswer
 lock-11 starts resources request margin =
     last-11 (grantRefusal starts resources request) (λ e. ⊎-elim (λ z. omega arith) (⊎-elim (λ h. omega arith) (λ h. omega arith)) (grant-in-order starts resources request .range)) (eqb-tells (length margin) 0)
+
+-- `fq_mend`
+module _ (sheet out changes : List ℕ) where
+  -- "how many bytes were written, or minus the refusal"
+  pub mend-said : Said (mendingRefusal sheet out changes) (length (mended sheet)) (mendNumber sheet out changes)
+  unfolding mendNumber
+  mend-said = said _ (length (mended sheet))
+
+  -- 11 exactly if the mended sheet is good and either output "is shorter than what is to be written"
+  pub mending-11 : (mendingRefusal sheet out changes ≡ 11) ↔ ((sheetRefusal (mended sheet) ≡ 0) × ((length out < length (mended sheet)) ⊎ (length changes < 1 + 4 * length (changesOf sheet))))
+  unfolding mendingRefusal
+  mending-11 =
+      given-if (sheetRefusal (mended sheet)) 11 (sheet-in-order (mended sheet) .range) (omega arith) (or-tells (ltb-tells (length out) (length (mended sheet))) (ltb-tells (length changes) (1 + 4 * length (changesOf sheet))))
+
+  -- "and then neither is touched", nor by any other refusal
+  pub mend-kept : (mendingRefusal sheet out changes ≡ 0 → ⊥) → (mendLeft sheet out changes ≡ out) × (mendListed sheet out changes ≡ changes)
+  unfolding mendLeft mendListed
+  mend-kept broken = simp (ne-eqb (mendingRefusal sheet out changes) 0 broken) (refl, refl)
+
+  -- else the one begins with the mended sheet and the other with the changes' numbers, and what stands after those is not touched
+  pub mend-put : mendingRefusal sheet out changes ≡ 0
+      → (mendLeft sheet out changes ≡ mended sheet ++ drop (length (mended sheet)) out)
+      × (mendListed sheet out changes ≡ changesNumbers (changesOf sheet) ++ drop (1 + 4 * length (changesOf sheet)) changes)
+  unfolding mendLeft mendListed
+  mend-put fine = simp fine (refl, refl)
+
+-- "`changes[0]` is how many changes there are, then four numbers each: place, field (0 length, 1 deadline, 2 fault priority), old, new"
+pub four-numbers : (list : List Change) (k : ℕ) → k < length list
+    → (getD (changesNumbers list) 0 0 ≡ length list) × (take 4 (drop (1 + 4 * k) (changesNumbers list)) ≡ changeNumbers (getD list k noChange))
+unfolding changesFrom changeNumbers
+four-numbers list k below =
+    (refl, ap (λ (n : ℕ). take 4 (drop n (changesNumbers list))) (one-add (4 * k)) ∙ run-at 4 (λ place. changeNumbers (getD list place noChange)) (λ place. refl) (length list) k below)

@@ -5,7 +5,7 @@ use mathlib.Core.List.{List}
 use lib.IntN.{ℤ}
 use Rattle.sheet.specs.Rules.{sheetRefusal}
 use Rattle.sheet.proofs.Unique.{both}
-use Rattle.fidhaqooban.specs.Answers.{writeSharedNumber, writeSharedLeft, writeNumber, writeLeft, rewriteNumber, rewriteLeft, recordNumber, responseNumber, slackNumber, slackLeft, verdictNumber, intervalNumber, nextNumber, listNumber, listLeft, replayNumber, replayLeft, checkNumber}
+use Rattle.fidhaqooban.specs.Answers.{writeSharedNumber, writeSharedLeft, writeNumber, writeLeft, rewriteNumber, rewriteLeft, recordNumber, responseNumber, slackNumber, slackLeft, verdictNumber, intervalNumber, nextNumber, listNumber, listLeft, replayNumber, replayLeft, checkNumber, mendNumber, mendLeft, mendListed}
 use Rattle.locks.specs.declared.Request.{Request}
 use Rattle.fidhaqooban.specs.Locking.{grantingOf, lockNumber, lockLeft}
 
@@ -60,3 +60,8 @@ pub fq-grant-unique : (period count : ℕ) (starts uses resources : List ℕ) (r
     → (a ≡ lockNumber (grantingOf period count starts uses resources request) margin) × (left ≡ lockLeft (grantingOf period count starts uses resources request) margin)
     → (b ≡ lockNumber (grantingOf period count starts uses resources request) margin) × (left′ ≡ lockLeft (grantingOf period count starts uses resources request) margin) → (a ≡ b) × (left ≡ left′)
 fq-grant-unique period count starts uses resources request margin a b left left′ p q = (both (p .0) (q .0), both (p .1) (q .1))
+
+pub fq-mend-unique : (sheet out changes : List ℕ) (a b : ℤ) (left left′ listed listed′ : List ℕ)
+    → (a ≡ mendNumber sheet out changes) × (left ≡ mendLeft sheet out changes) × (listed ≡ mendListed sheet out changes)
+    → (b ≡ mendNumber sheet out changes) × (left′ ≡ mendLeft sheet out changes) × (listed′ ≡ mendListed sheet out changes) → (a ≡ b) × (left ≡ left′) × (listed ≡ listed′)
+fq-mend-unique sheet out changes a b left left′ listed listed′ p q = (both (p .0) (q .0), both (p .1) (q .1), both (p .2) (q .2))

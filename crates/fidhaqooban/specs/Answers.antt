@@ -1,6 +1,6 @@
 -- What each function answers, as a number of C, and what it leaves in the lent output.
 use Prim.Native.Nat.{ℕ, _+_, _*_}
-use mathlib.Core.Bool.{cond}
+use mathlib.Core.Bool.{cond, _||_}
 use mathlib.Core.List.{List, [], _∷_, _++_}
 use lib.Dec.{eqb, ltb}
 use lib.IntN.{ℤ}
@@ -17,7 +17,9 @@ use Rattle.choices.specs.Answers.{walkRefusal, listRefusal, listLeaves}
 use Rattle.replay.specs.Machines.{machineOf}
 use Rattle.replay.specs.Shown.{matching}
 use Rattle.replay.specs.Answers.{replayRefusal, replayAnswer, checkRefusal}
-use Rattle.fidhaqooban.specs.Numbers.{answerOf, givenTable, timeOf, figuresOf, figureIn, entriesOf, choiceOf, countNumbers}
+use Rattle.mend.specs.Mended.{mended}
+use Rattle.mend.specs.Changes.{changesOf}
+use Rattle.fidhaqooban.specs.Numbers.{answerOf, givenTable, timeOf, figuresOf, figureIn, entriesOf, choiceOf, countNumbers, changesNumbers}
 
 -- `fq_write_shared`: "bytes written"
 unfoldable pub writeSharedNumber : ℕ → ℕ → ℕ → ℕ → List ℕ → List ℕ → ℤ
@@ -115,3 +117,23 @@ replayLeft sheet log out = cond (eqb (replayedRefusal sheet log out) 0) (countNu
 -- `fq_check`: "how many ticks from the start show what the rules say", or minus the refusal
 unfoldable pub checkNumber : List ℕ → List ℕ → ℤ
 checkNumber sheet supplied = answerOf (checkRefusal sheet supplied) (matching (machineOf (tableOf sheet)) supplied)
+
+-- how many numbers the list of a sheet's changes takes
+abbrev pub listSize : List ℕ → ℕ
+listSize sheet = 1 + 4 * length (changesOf sheet)
+
+-- the refusal of `fq_mend`: that of the mended sheet, then 11, "for either output that is shorter than what is to be written"
+unfoldable pub mendingRefusal : List ℕ → List ℕ → List ℕ → ℕ
+mendingRefusal sheet out changes = orElse (sheetRefusal (mended sheet)) (cond (ltb (length out) (length (mended sheet)) || ltb (length changes) (listSize sheet)) 11 0)
+
+-- `fq_mend`: "how many bytes were written, or minus the refusal"
+unfoldable pub mendNumber : List ℕ → List ℕ → List ℕ → ℤ
+mendNumber sheet out changes = answerOf (mendingRefusal sheet out changes) (length (mended sheet))
+
+-- what it leaves in the one output: the mended sheet and then the bytes as they were, or all as it was
+unfoldable pub mendLeft : List ℕ → List ℕ → List ℕ → List ℕ
+mendLeft sheet out changes = cond (eqb (mendingRefusal sheet out changes) 0) (mended sheet ++ drop (length (mended sheet)) out) out
+
+-- and in the other: the changes' numbers and then the numbers as they were, or all as it was
+unfoldable pub mendListed : List ℕ → List ℕ → List ℕ → List ℕ
+mendListed sheet out changes = cond (eqb (mendingRefusal sheet out changes) 0) (changesNumbers (changesOf sheet) ++ drop (listSize sheet) changes) changes

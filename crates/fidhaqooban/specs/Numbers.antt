@@ -1,14 +1,17 @@
--- Tables, choices, times, counts and answers as the numbers that pass between C and the desk.
+-- Tables, choices, times, counts, changes and answers as the numbers that pass between C and the desk.
 use Prim.Native.Nat.{ℕ, _+_, _*_, min}
 use mathlib.Core.Bool.{cond}
 use mathlib.Core.List.{List, [], _∷_}
 use lib.Dec.{eqb}
 use lib.IntN.{ℤ, pos, negℤ}
-use lib.ListN.{getD, set, take, replicate}
+use lib.ListN.{length, getD, set, take, replicate}
 use Rattle.sheet.specs.declared.Record.{Record}
 use Rattle.sheet.specs.declared.Table.{Table}
 use Rattle.sheet.specs.Packing.{packed, unpacked}
+use Rattle.sheet.specs.Places.{joinedBelow}
 use Rattle.sheet.specs.Layout.{room}
+use Rattle.mend.specs.declared.Change.{Change}
+use Rattle.mend.specs.Changes.{fieldNumber, noChange}
 use Rattle.replay.specs.declared.Counts.{Counts}
 use Rattle.analysis.specs.declared.Outcome.{Outcome}
 use Rattle.analysis.specs.declared.Outcome.the-variants.{OnTime, Late}
@@ -73,3 +76,15 @@ choiceOf entries = packed (replicate 8 4) entries
 -- the seven counts in the header's order
 unfoldable pub countNumbers : Counts → List ℕ
 countNumbers c = c .«first_attempts» ∷ c .backups ∷ c .idle ∷ c .released ∷ c .finished ∷ c .missed ∷ c .unfinished ∷ []
+
+-- a change's four numbers: "place, field (0 length, 1 deadline, 2 fault priority), old, new"
+unfoldable pub changeNumbers : Change → List ℕ
+changeNumbers c = c .place ∷ fieldNumber (c .field) ∷ c .old ∷ c .new ∷ []
+
+-- how many changes there are of a list, and four numbers for each
+unfoldable pub changesFrom : List Change → ℕ → List ℕ
+changesFrom list count = count ∷ joinedBelow (λ place. changeNumbers (getD list place noChange)) count
+
+-- "how many changes there are, then four numbers each"
+abbrev pub changesNumbers : List Change → List ℕ
+changesNumbers changes = changesFrom changes (length changes)

@@ -2,7 +2,7 @@
 // Each function is thin: it reads the sheet, asks the crate that answers, and turns the answer into a number.
 ghost use mathlib.Core.Path.{_≡_};
 ghost use Rattle.sheet.specs.Rules.{sheetRefusal};
-ghost use Rattle.fidhaqooban.specs.Answers.{writeSharedNumber, writeSharedLeft, writeNumber, writeLeft, rewriteNumber, rewriteLeft, recordNumber, responseNumber, slackNumber, slackLeft, verdictNumber, intervalNumber, nextNumber, listNumber, listLeft, replayNumber, replayLeft, checkNumber};
+ghost use Rattle.fidhaqooban.specs.Answers.{writeSharedNumber, writeSharedLeft, writeNumber, writeLeft, rewriteNumber, rewriteLeft, recordNumber, responseNumber, slackNumber, slackLeft, verdictNumber, intervalNumber, nextNumber, listNumber, listLeft, replayNumber, replayLeft, checkNumber, mendNumber, mendLeft, mendListed};
 ghost use Rattle.fidhaqooban.specs.Locking.{givenRequest, grantingOf, lockNumber, lockLeft};
 use analysis::Interval;
 use choices::Arrival;
@@ -243,4 +243,28 @@ pub extern "C" fn fq_grant(
     }
     locking::put_margin(granting.margin, margin);
     numbers::answer(0, granting.granted as usize)
+}
+
+// Mends a sheet: how many bytes of it were written, with the number of changes and four numbers for each in the second output.
+#[no_mangle]
+pub extern "C" fn fq_mend(sheet: &[u8], out: &mut [u8], changes: &mut [u64]) -> i64
+    ensures { λ r. ⌜ (r ≡ mendNumber (now (sheet .entry)) (now (out .entry)) (now (changes .entry))) × (now (out .exit) ≡ mendLeft (now (sheet .entry)) (now (out .entry)) (now (changes .entry))) × (now (changes .exit) ≡ mendListed (now (sheet .entry)) (now (out .entry)) (now (changes .entry))) ⌝ }
+{
+    let mut longest = [0u8; 79];
+    let mending = mend::mend(sheet, &mut longest);
+    if mending.refusal != 0 {
+        return numbers::answer(mending.refusal, 0);
+    }
+    let size = mending.written;
+    if out.len() < size {
+        return numbers::answer(11, 0);
+    }
+    let listed = mending.changes;
+    if changes.len() < 1 + 4 * listed.count as usize {
+        return numbers::answer(11, 0);
+    }
+    let list = listed.list;
+    bytes::copy(&longest[..size], out);
+    numbers::put_changes(list, listed.count, changes);
+    numbers::answer(0, size)
 }

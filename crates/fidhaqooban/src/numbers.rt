@@ -1,14 +1,17 @@
 // Tables, choices, times, counts and answers as the numbers of C.
 ghost use mathlib.Core.Path.{_≡_};
-ghost use Prim.Native.Nat.{_≤_, _<_, _^_};
+ghost use Prim.Native.Nat.{_+_, _*_, _≤_, _<_, _^_};
 ghost use lib.ListN.{length};
 ghost use lib.Seq.{sets};
 ghost use Rattle.sheet.specs.Layout.{startOf};
 ghost use Rattle.sheet.specs.Rules.{sheetRefusal};
 ghost use Rattle.choices.specs.Stepping.{small};
-ghost use Rattle.fidhaqooban.specs.Numbers.{answerOf, numberAt, byteOf, givenRecord, tableFrom, givenTable, timeOf, figuresOf, figureIn, entriesOf, choiceOf, countNumbers};
+ghost use Rattle.mend.specs.Changes.{fieldNumber};
+ghost use Rattle.fidhaqooban.specs.Numbers.{answerOf, numberAt, byteOf, givenRecord, tableFrom, givenTable, timeOf, figuresOf, figureIn, entriesOf, choiceOf, countNumbers, changeNumbers, changesFrom};
 use analysis::Outcome;
 use analysis::Slack;
+use mend::Change;
+use mend::Field;
 use replay::Counts;
 use sheet::Record;
 use sheet::Table;
@@ -161,4 +164,40 @@ pub fn put_counts(counts: Counts, out: &mut [u64])
     out[4] = counts.finished;
     out[5] = counts.missed;
     out[6] = counts.unfinished;
+}
+
+// A field's number.
+fn field_number(field: Field) -> u64
+    ensures { λ r. ⌜ r ≡ fieldNumber field ⌝ }
+{
+    match field {
+        Field::Length => 0,
+        Field::Deadline => 1,
+        Field::FaultPriority => 2,
+    }
+}
+
+// Puts a change's four numbers.
+fn put_change(change: Change, out: &mut [u64], at: usize)
+    requires { ⌜ at + 4 ≤ length (now out) ⌝ }
+    ensures { λ _. ⌜ now (out .exit) ≡ sets (now (out .entry)) at (changeNumbers change) ⌝ }
+{
+    let field = change.field;
+    out[at] = change.place as u64;
+    out[at + 1] = field_number(field);
+    out[at + 2] = change.old;
+    out[at + 3] = change.new;
+}
+
+// Puts the number of changes and then four numbers for each at the start of an output that has room.
+pub fn put_changes(list: [Change; 17], count: u8, out: &mut [u64])
+    requires { ⌜ (count ≤ 17) × (1 + 4 * count ≤ length (now out)) ⌝ }
+    ensures { λ _. ⌜ now (out .exit) ≡ sets (now (out .entry)) 0 (changesFrom list count) ⌝ }
+{
+    out[0] = count as u64;
+    let mut place: usize = 0;
+    while place < count as usize {
+        put_change(list[place], out, 1 + 4 * place);
+        place += 1;
+    }
 }

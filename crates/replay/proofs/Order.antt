@@ -16,7 +16,7 @@ use Rattle.sheet.specs.Places.{orElse, someBelow, joinedBelow}
 use Rattle.sheet.specs.Layout.{recordAt, tableOf, isWhole}
 use Rattle.sheet.specs.Broken.{Row, row, InOrder, sheetRows}
 use Rattle.sheet.proofs.Tells.{Tells, holds, fails, tells, or-tells, and-tells, not-tells, eqb-tells}
-use Rattle.sheet.proofs.Order.{Says, none, first, says-none, says-row, says-joined, says-below, in-order, rule-positive, sheet-says}
+use Rattle.sheet.proofs.Order.{Says, none, first, says-none, says-row, says-wider, says-joined, says-below, in-order, rule-positive, sheet-says}
 use Rattle.replay.specs.declared.Machine.{Machine}
 use Rattle.replay.specs.Tick.{isReleased, isAbove, isMarked, hasOther}
 use Rattle.replay.specs.Cells.{cellAt}
@@ -108,11 +108,6 @@ module _ (m : Machine) (log : List ℕ) (free : (place : ℕ) → place < 8 → 
   -- a log's refusal is given in the order of its rows
   pub log-in-order : InOrder LogNumber (logRows (m .count) (m .interval) (recordAt (m .tasks)) log) (logRefusal m log)
   log-in-order = in-order log-positive log-says
-
--- what a number says of rows it says with more numbers allowed
-says-wider : {Some More : ℕ → Type 0} {rows : List Row} {r : ℕ} → ((n : ℕ) → Some n → More n) → Says Some rows r → Says More rows r
-says-wider wider (none f) = none f
-says-wider wider (first {r = r} k f) = first (wider r k) f
 
 start-positive : (r : ℕ) → StartNumber r → 0 < r
 start-positive r (inl k) = rule-positive r k

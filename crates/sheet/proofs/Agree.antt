@@ -35,7 +35,7 @@ unfolding someBelow
 some-agree zero same = refl
 some-agree (suc n) same = ap₂ _||_ (some-agree n (less n same)) (same n (omega arith))
 
-pub joined-agree : {f g : ℕ → List ℕ} (n : ℕ) → Agree n f g → joinedBelow f n ≡ joinedBelow g n
+pub joined-agree : {A : Type 0} {f g : ℕ → List A} (n : ℕ) → Agree n f g → joinedBelow f n ≡ joinedBelow g n
 unfolding joinedBelow
 joined-agree zero same = refl
 joined-agree (suc n) same = ap₂ _++_ (joined-agree n (less n same)) (same n (omega arith))
@@ -55,6 +55,12 @@ filled-at f (suc n) l d fits k h = go (filled-at f n l d (omega arith) k) (eq-or
     go earlier w =
         ⊎-elim (λ e. rw e (getD-set-same (filledBelow f n l) n (f n) d (omega (arith, length-filled f n l))))
         (λ lt. getD-set-other (filledBelow f n l) n k (f n) d (λ e. omega arith) ∙ earlier lt) w
+
+-- and past n it is as it was
+pub filled-past : {A : Type 0} (f : ℕ → A) (n : ℕ) (l : List A) (d : A) (k : ℕ) → n ≤ k → getD (filledBelow f n l) k d ≡ getD l k d
+unfolding filledBelow
+filled-past f zero l d k high = refl
+filled-past f (suc n) l d k high = getD-set-other (filledBelow f n l) n k (f n) d (λ e. omega arith) ∙ filled-past f n l d k (omega arith)
 
 module _ (n : ℕ) {at at′ : ℕ → Record} (same : Agree n at at′) where
   taken-agree : (place : ℕ) → place ≤ n → (p : ℕ) → taken at place p ≡ taken at′ place p

@@ -64,6 +64,11 @@ module _ {Number : ℕ → Type 0} where
       go (none f) = none (n, f)
       go (first k f) = first k (inr (n, f))
 
+-- what a number says of rows it says with more numbers allowed
+pub says-wider : {Some More : ℕ → Type 0} {rows : List Row} {r : ℕ} → ((n : ℕ) → Some n → More n) → Says Some rows r → Says More rows r
+says-wider wider (none f) = none f
+says-wider wider (first {r = r} k f) = first (wider r k) f
+
 module _ {Number : ℕ → Type 0} (positive : (r : ℕ) → Number r → 0 < r) where
   -- a number that says it of rows, or else the one that says it of further rows, says it of both
   pub says-joined : (xs ys : List Row) {q r : ℕ} → Says Number xs q → Says Number ys r → Says Number (xs ++ ys) (orElse q r)

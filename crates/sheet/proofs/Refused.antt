@@ -15,10 +15,10 @@ use Rattle.sheet.specs.declared.Record.{Record}
 use Rattle.sheet.specs.declared.Table.{Table}
 use Rattle.sheet.specs.declared.Excerpt.{Excerpt}
 use Rattle.sheet.specs.Places.{orElse}
-use Rattle.sheet.specs.Layout.{countOf, headerSize, tableEdition, tableSize, sizeOf, noRecord}
-use Rattle.sheet.specs.Rules.{sheetRefusal, tableRefusal}
+use Rattle.sheet.specs.Layout.{countOf, headerSize, tableEdition, tableSize, sizeOf, noRecord, noTable}
+use Rattle.sheet.specs.Rules.{headerRefusal, sheetRefusal, tableRefusal}
 use Rattle.sheet.specs.Broken.{RuleNumber}
-use Rattle.sheet.specs.Answers.{readAnswer, writeRefusal, writeAnswer, writeLeaves, placeRefusal, partStart, partBytes, Part, Excerpted}
+use Rattle.sheet.specs.Answers.{readAnswer, unjudgedAnswer, writeRefusal, writeAnswer, writeLeaves, placeRefusal, partStart, partBytes, Part, Excerpted}
 use Rattle.sheet.proofs.Turns.{next-of, first-of, none-of}
 use Rattle.sheet.proofs.Tells.{Tells, holds, fails, ltb-tells}
 use Rattle.sheet.proofs.Order.{sheet-in-order, table-in-order}
@@ -86,12 +86,19 @@ zeros r e =
       fault = ap (λ (x : Record). x .«fault_priority») e;
     }
 
+-- and the table of zeros
+no-table : ZeroTable noTable
+no-table = record { count = refl; interval = refl; round = refl; share = refl; eight = refl; records = λ place below other. zeros _ (getD-replicate 8 place noRecord other below) }
+
 -- `read`: a refused sheet has its number beside a zero table
 pub read-refused : (s : List ℕ) → (sheetRefusal s ≡ 0 → ⊥) → (readAnswer s .refusal ≡ sheetRefusal s) × ZeroTable (readAnswer s .table)
 unfolding readAnswer
-read-refused s broken =
-    simp (ne-eqb (sheetRefusal s) 0 broken)
-    (refl, record { count = refl; interval = refl; round = refl; share = refl; eight = refl; records = λ place below other. zeros _ (getD-replicate 8 place noRecord other below) })
+read-refused s broken = simp (ne-eqb (sheetRefusal s) 0 broken) (refl, no-table)
+
+-- `read_unjudged`: likewise for a refused header
+pub unjudged-refused : (s : List ℕ) → (headerRefusal s ≡ 0 → ⊥) → (unjudgedAnswer s .refusal ≡ headerRefusal s) × ZeroTable (unjudgedAnswer s .table)
+unfolding unjudgedAnswer
+unjudged-refused s broken = simp (ne-eqb (headerRefusal s) 0 broken) (refl, no-table)
 
 module _ (t : Table) (out : List ℕ) where
   -- `write`: 11 exactly if the table is good and "the lent output is shorter than what is to be written", 3 + 9n bytes, or in the new edition 7 + 9n

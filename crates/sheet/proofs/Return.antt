@@ -23,13 +23,13 @@ use Rattle.sheet.proofs.Cases.{GoodHeader, GoodTable, good-at}
 use Rattle.sheet.proofs.Agree.{Agree, joined-agree, room-agree, room-at}
 
 -- runs of w elements of a list, one after the other, are the list's start
-joined-runs : (w : ℕ) (l : List ℕ) (n : ℕ) → joinedBelow (λ k. take w (drop (w * k) l)) n ≡ take (w * n) l
+pub joined-runs : (w : ℕ) (l : List ℕ) (n : ℕ) → joinedBelow (λ k. take w (drop (w * k) l)) n ≡ take (w * n) l
 unfolding joinedBelow
 joined-runs w l zero = ap (λ (k : ℕ). take k l) (sym (mul-zero w))
 joined-runs w l (suc n) = ap (λ (r : List ℕ). r ++ take w (drop (w * n) l)) (joined-runs w l n) ∙ sym (take-add (w * n) w l) ∙ ap (λ (k : ℕ). take k l) (sym (mul-suc w n))
 
 -- each place of w bytes stands at its own run
-run-at : (w : ℕ) (f : ℕ → List ℕ) → ((k : ℕ) → length (f k) ≡ w) → (n k : ℕ) → k < n → take w (drop (w * k) (joinedBelow f n)) ≡ f k
+pub run-at : (w : ℕ) (f : ℕ → List ℕ) → ((k : ℕ) → length (f k) ≡ w) → (n k : ℕ) → k < n → take w (drop (w * k) (joinedBelow f n)) ≡ f k
 unfolding joinedBelow
 run-at w f each zero k h = absurd (not-suc-le-zero h)
 run-at w f each (suc n) k h = go (run-at w f each n k) (eq-or-lt-of-le (le-of-suc-le-suc h))
@@ -50,13 +50,13 @@ run-at w f each (suc n) k h = go (run-at w f each n k) (eq-or-lt-of-le (le-of-su
     go before side = ⊎-elim last (λ lt. earlier lt (before lt)) side
 
 -- bytes cut out of bytes are bytes
-bytes-take : (n : ℕ) (l : List ℕ) → Bytes l → Bytes (take n l)
+pub bytes-take : (n : ℕ) (l : List ℕ) → Bytes l → Bytes (take n l)
 bytes-take zero l h k = lit< tt
 bytes-take (suc n) [] h k = lit< tt
 bytes-take (suc n) (b ∷ l) h zero = h 0
 bytes-take (suc n) (b ∷ l) h (suc k) = bytes-take n l (λ j. h (suc j)) k
 
-bytes-drop : (n : ℕ) (l : List ℕ) → Bytes l → Bytes (drop n l)
+pub bytes-drop : (n : ℕ) (l : List ℕ) → Bytes l → Bytes (drop n l)
 bytes-drop n l h k = rw getD-drop (h (n + k))
 
 -- six fields make a record that has these fields
@@ -65,14 +65,14 @@ unfolding fieldsOf recordFrom
 fields-kept fields e = sym (listed fields 6 e)
 
 -- nine bytes hold a record that is put as the same nine bytes
-part-kept : (part : List ℕ) → length part ≡ 9 → Bytes part → recordBytes (recordOf part) ≡ part
+pub part-kept : (part : List ℕ) → length part ≡ 9 → Bytes part → recordBytes (recordOf part) ≡ part
 unfolding recordBytes recordOf
 part-kept part e h =
     ap (regrouped recordWidths (bytes 9)) (fields-kept (regrouped (bytes 9) recordWidths part) (length-regrouped _ recordWidths _))
     ∙ regrouped-back recordWidths (subst (λ (n : ℕ). Fit (bytes n) part) e (bytes-fit part h)) refl
 
 -- a record within its widths is held by the nine bytes that it is put as
-record-kept : (r : Record) → Sized r → recordOf (recordBytes r) ≡ r
+pub record-kept : (r : Record) → Sized r → recordOf (recordBytes r) ≡ r
 unfolding recordOf recordBytes recordFrom fieldsOf
 record-kept r z = ap recordFrom (regrouped-back (bytes 9) (fields-fit r z) refl)
 

@@ -28,10 +28,10 @@ module _ {A : Type 0} (value : ℕ → A) where
   unfolding filledBelow
   fill-more n room = rw add-one refl
 
--- bytes joined place by place grow by the next place's
-pub joined-more : (bytes : ℕ → List ℕ) (n : ℕ) → joinedBelow bytes (n + 1) ≡ joinedBelow bytes n ++ bytes n
+-- lists joined place by place grow by the next place's
+pub joined-more : {A : Type 0} (lists : ℕ → List A) (n : ℕ) → joinedBelow lists (n + 1) ≡ joinedBelow lists n ++ lists n
 unfolding joinedBelow
-joined-more bytes n = rw add-one refl
+joined-more lists n = rw add-one refl
 
 -- of two refusals the first that is not 0
 pub next-of : {a : ℕ} (b : ℕ) → a ≡ 0 → orElse a b ≡ b

@@ -10,7 +10,7 @@ use Rattle.sheet.specs.declared.Reading.{Reading}
 use Rattle.sheet.specs.declared.Writing.{Writing}
 use Rattle.sheet.specs.declared.Excerpt.{Excerpt}
 use Rattle.sheet.specs.Rules.{sheetRefusal, tableRefusal}
-use Rattle.sheet.specs.Answers.{readAnswer, writeAnswer, writeLeaves, placeRefusal, Part, Excerpted}
+use Rattle.sheet.specs.Answers.{readAnswer, unjudgedAnswer, writeAnswer, writeLeaves, placeRefusal, Part, Excerpted}
 
 -- two values that are both a third are equal
 pub both : {A : Type 0} {a b c : A} → a ≡ c → b ≡ c → a ≡ b
@@ -24,6 +24,9 @@ judge-table-unique t a b = both
 
 pub read-unique : (sheet : List ℕ) (a b : Reading) → a ≡ readAnswer sheet → b ≡ readAnswer sheet → a ≡ b
 read-unique sheet a b = both
+
+pub read-unjudged-unique : (sheet : List ℕ) (a b : Reading) → a ≡ unjudgedAnswer sheet → b ≡ unjudgedAnswer sheet → a ≡ b
+read-unjudged-unique sheet a b = both
 
 pub write-unique : (t : Table) (out : List ℕ) (a b : Writing) (left left′ : List ℕ)
     → (a ≡ writeAnswer t out) × (left ≡ writeLeaves t out) → (b ≡ writeAnswer t out) × (left′ ≡ writeLeaves t out) → (a ≡ b) × (left ≡ left′)

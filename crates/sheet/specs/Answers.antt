@@ -12,11 +12,15 @@ use Rattle.sheet.specs.declared.Writing.{Writing}
 use Rattle.sheet.specs.declared.Excerpt.{Excerpt}
 use Rattle.sheet.specs.Places.{orElse}
 use Rattle.sheet.specs.Layout.{countOf, startOf, partOf, tableOf, noTable, tableSize, sheetOf}
-use Rattle.sheet.specs.Rules.{sheetRefusal, tableRefusal}
+use Rattle.sheet.specs.Rules.{headerRefusal, sheetRefusal, tableRefusal}
 
 -- `read`: the refusal beside the table, a zero table where the sheet is refused
 unfoldable pub readAnswer : List ℕ → Reading
 readAnswer sheet = record { refusal = sheetRefusal sheet; table = cond (eqb (sheetRefusal sheet) 0) (tableOf sheet) noTable }
+
+-- `read_unjudged`: the header's refusal beside the table, its records as they stand; a zero table where the header is refused
+unfoldable pub unjudgedAnswer : List ℕ → Reading
+unjudgedAnswer sheet = record { refusal = headerRefusal sheet; table = cond (eqb (headerRefusal sheet) 0) (tableOf sheet) noTable }
 
 -- the refusal of a write: the table's, then 11, "the lent output is shorter than what is to be written"
 unfoldable pub writeRefusal : Table → List ℕ → ℕ

@@ -2,7 +2,7 @@
 // Every call answers any bytes, numbers and tables; a refusal gives its number, and zeros or an empty part beside it.
 ghost use mathlib.Core.Path.{_≡_};
 ghost use Rattle.sheet.specs.Rules.{sheetRefusal, tableRefusal};
-ghost use Rattle.sheet.specs.Answers.{readAnswer, writeAnswer, writeLeaves, placeRefusal, Part, Excerpted};
+ghost use Rattle.sheet.specs.Answers.{readAnswer, unjudgedAnswer, writeAnswer, writeLeaves, placeRefusal, Part, Excerpted};
 
 mod layout;
 mod rules;
@@ -26,7 +26,7 @@ pub struct Table {
     pub records: [Record; 8],
 }
 
-// What `read` answers: the refusal, or 0 beside the table.
+// What `read` and `read_unjudged` answer: the refusal, or 0 beside the table.
 pub struct Reading {
     pub refusal: u8,
     pub table: Table,
@@ -83,6 +83,23 @@ pub fn read(sheet: &[u8]) -> Reading
     if refusal != 0 {
         return Reading {
             refusal,
+            table: layout::no_table(),
+        };
+    }
+    Reading {
+        refusal: 0,
+        table: layout::table_of(sheet),
+    }
+}
+
+// The same of a sheet whose header is good, with its records as they stand, good or not.
+pub fn read_unjudged(sheet: &[u8]) -> Reading
+    ensures { λ r. ⌜ r ≡ unjudgedAnswer (now (sheet .entry)) ⌝ }
+{
+    let header = rules::judge_header(sheet);
+    if header != 0 {
+        return Reading {
+            refusal: header,
             table: layout::no_table(),
         };
     }
