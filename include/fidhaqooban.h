@@ -35,7 +35,7 @@ extern "C" {
 #endif
 
 /* The version of this header and library; `./desk --version` prints the same. */
-#define FQ_VERSION "1.11.0"
+#define FQ_VERSION "1.12.0"
 
 /*
  * What a refused call gives, in the order in which the rules are tried: the number of the first rule broken,
@@ -154,7 +154,11 @@ int64_t fq_response(const uint8_t *sheet, size_t len, size_t place);
  */
 int64_t fq_slack(const uint8_t *sheet, size_t len, size_t place, int32_t *out, size_t out_len);
 
-/* 1 where the sheet passes (no task is late), 0 where it does not, or minus the refusal (1 to 10 or 18). */
+/*
+ * 1 where the sheet passes (no task is late), 0 where it does not, or minus the refusal (1 to 10 or 18).
+ * For the whole processor with each q at its p, 1 says that no log which fq_replay accepts misses a job; under
+ * lowered fault priorities one can (docs/RUNS.md).
+ */
 int64_t fq_verdict(const uint8_t *sheet, size_t len);
 
 /*

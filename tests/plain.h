@@ -36,4 +36,10 @@ int64_t plain_grant(uint32_t period, uint8_t count, const uint32_t *starts, size
                     size_t uses_len, const uint8_t *resources, size_t resources_len, uint8_t priority, uint64_t time,
                     uint8_t resource, uint32_t length, int64_t *margin, size_t margin_len);
 
+/* How many jobs a log misses, or minus its refusal; of each record, by place, the most ticks that a finished job took from its release. */
+int64_t plain_missed(const uint8_t *sheet, size_t len, const uint8_t *log, size_t log_len, uint64_t *longest);
+
+/* Marks a fault in each tick of a log without faults that may have one and in which a job would finish. */
+void plain_strike(const uint8_t *sheet, size_t len, uint8_t *log, size_t log_len);
+
 #endif

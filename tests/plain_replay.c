@@ -1,6 +1,7 @@
 /*
  * The plain replay: request 1's paragraph sentence by sentence, and request 7's. It keeps the tick at which each thing
- * happened, and looks for the job that runs by comparing all of them.
+ * happened, and looks for the job that runs by comparing all of them. For request 12 it also tells how long jobs took,
+ * and marks the faults that hurt most.
  */
 #include "plain.h"
 
@@ -20,13 +21,14 @@ struct ticks {
     size_t bytes_of_tick;
 };
 
-/* A task of the sheet with its job, if it has one that is neither finished nor dropped. */
+/* A task of the sheet with its job, if it has one that is neither finished nor dropped, and the most ticks that one took. */
 struct running {
     struct record task;
     bool has_job;
     bool is_backup;
     uint64_t left;
     uint64_t released_at;
+    uint64_t longest;
 };
 
 /* The task of a priority from 1. */
@@ -138,7 +140,7 @@ static uint8_t shown_of(const struct running *one)
 }
 
 /* The job that runs does one tick of its work, which a fault throws away. */
-static void run_one(struct running *one, bool is_struck, uint64_t *counts)
+static void run_one(struct running *one, size_t tick, bool is_struck, uint64_t *counts)
 {
     counts[one->is_backup ? BACKUPS : FIRST_ATTEMPTS]++;
     one->left--;
@@ -147,6 +149,8 @@ static void run_one(struct running *one, bool is_struck, uint64_t *counts)
         one->left = one->task.backup;
     }
     if (one->left == 0) {
+        uint64_t took = tick - one->released_at + 1;
+        one->longest = took > one->longest ? took : one->longest;
         one->has_job = false;
         counts[FINISHED]++;
     }
@@ -158,7 +162,7 @@ static uint8_t run_tick(struct running *tasks, size_t count, const struct ticks 
     for (size_t index = 0; index < count; index++) {
         struct running *one = &tasks[index];
         if (releases(ticks, tick, one->task.priority)) {
-            *one = (struct running){one->task, true, false, one->task.cost, tick};
+            *one = (struct running){one->task, true, false, one->task.cost, tick, one->longest};
             counts[RELEASED]++;
         }
     }
@@ -167,7 +171,7 @@ static uint8_t run_tick(struct running *tasks, size_t count, const struct ticks 
     if (first == NULL) {
         counts[IDLING]++;
     } else {
-        run_one(first, is_marked(ticks, tick), counts);
+        run_one(first, tick, is_marked(ticks, tick), counts);
     }
     for (struct running *one = tasks; one < tasks + count; one++) {
         if (one->has_job && tick - one->released_at + 1 == one->task.deadline) {
@@ -186,10 +190,9 @@ static void take_tasks(const struct table *table, struct running *tasks)
     }
 }
 
-/* The seven counts of a log that is good. */
-static void count_log(const struct table *table, const struct ticks *log, uint64_t *counts)
+/* Goes over a log that is good, and counts. */
+static void count_log(const struct table *table, const struct ticks *log, struct running *tasks, uint64_t *counts)
 {
-    struct running tasks[MOST_TASKS];
     take_tasks(table, tasks);
     for (size_t tick = 0; tick < log->length / LOG_TICK_BYTES; tick++) {
         run_tick(tasks, table->count, log, tick, counts);
@@ -217,6 +220,7 @@ int64_t plain_replay(const uint8_t *sheet, size_t len, const uint8_t *log, size_
                      size_t counts_len)
 {
     struct table table;
+    struct running tasks[MOST_TASKS];
     struct ticks ticks = {log, log_len, LOG_TICK_BYTES};
     int64_t refusal = refused_ticks(sheet, len, &ticks, &table);
     if (refusal == 0 && counts_len < COUNTS) {
@@ -224,9 +228,52 @@ int64_t plain_replay(const uint8_t *sheet, size_t len, const uint8_t *log, size_
     }
     if (refusal == 0) {
         memset(counts, 0, COUNTS * sizeof counts[0]);
-        count_log(&table, &ticks, counts);
+        count_log(&table, &ticks, tasks, counts);
     }
     return refusal;
+}
+
+/* How many jobs a log misses, or minus the refusal; of each record the most ticks that a finished job took. */
+int64_t plain_missed(const uint8_t *sheet, size_t len, const uint8_t *log, size_t log_len, uint64_t *longest)
+{
+    struct table table;
+    struct running tasks[MOST_TASKS];
+    struct ticks ticks = {log, log_len, LOG_TICK_BYTES};
+    uint64_t counts[COUNTS] = {0};
+    int64_t refusal = refused_ticks(sheet, len, &ticks, &table);
+    if (refusal != 0) {
+        return refusal;
+    }
+    count_log(&table, &ticks, tasks, counts);
+    for (size_t place = 0; place < table.count; place++) {
+        longest[place] = tasks[place].longest;
+    }
+    return (int64_t)counts[MISSED];
+}
+
+/* Marks a fault, in a log that has none, wherever one may come and the work it throws away is most: in the last tick of a job. */
+void plain_strike(const uint8_t *sheet, size_t len, uint8_t *log, size_t log_len)
+{
+    struct table table;
+    struct running tasks[MOST_TASKS];
+    struct ticks ticks = {log, log_len, LOG_TICK_BYTES};
+    uint64_t counts[COUNTS] = {0}, gap = 0;
+    if (refused_ticks(sheet, len, &ticks, &table) != 0) {
+        return;
+    }
+    take_tasks(&table, tasks);
+    for (size_t tick = 0; tick < log_len / LOG_TICK_BYTES; tick++) {
+        struct running tried[MOST_TASKS];
+        uint64_t before = counts[FINISHED];
+        memcpy(tried, tasks, sizeof tried);
+        run_tick(tried, table.count, &ticks, tick, counts);
+        if (gap == 0 && counts[FINISHED] > before) {
+            log[LOG_TICK_BYTES * tick + 1] = FAULT_BIT;
+            gap = table.interval;
+        }
+        gap -= gap > 0;
+        run_tick(tasks, table.count, &ticks, tick, counts);
+    }
 }
 
 /* Checks a record: how many ticks from its start show what ran, or minus the refusal. */

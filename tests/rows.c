@@ -65,6 +65,18 @@ static void answer_replay(struct row *row)
     }
 }
 
+/* SHEET LOG: the verdict, the refusal of the replay and the missed jobs. */
+static void answer_run(struct row *row)
+{
+    static struct bytes sheet, log;
+    uint64_t counts[FQ_COUNTS] = {0};
+    read_bytes(row->word[0], &sheet);
+    read_bytes(row->word[1], &log);
+    add_number(row, fq_verdict(sheet.at, sheet.length));
+    add_number(row, -fq_replay(sheet.at, sheet.length, log.at, log.length, counts, FQ_COUNTS));
+    add_number(row, (int64_t)counts[FQ_MISSED]);
+}
+
 /* Adds a word to the answer, after a space if it is not the first. */
 static void add_word(struct row *row, const char *word)
 {
@@ -238,6 +250,7 @@ static const struct kind {
     {"ask-07-record.txt", 2, answer_record},
     {"ask-09-locks.txt", 8, answer_locks},
     {"ask-11-mend.txt", 1, answer_mend},
+    {"ask-12-runs.txt", 2, answer_run},
 };
 
 /* The kind of a file. */

@@ -51,7 +51,7 @@ unfolding backupOf
 unmeant r q level = refl
 
 -- the first fault's backup is paid
-first-paid : (u n : ℕ) → 1 ≤ u → u * n ≡ (u - 1) * n + n
+pub first-paid : (u n : ℕ) → 1 ≤ u → u * n ≡ (u - 1) * n + n
 first-paid zero n h = absurd (omega arith)
 first-paid (suc u) n h =
     let rest : suc u - 1 ≡ u = omega arith in

@@ -16,7 +16,7 @@ and-tells (holds p) (holds q) = holds (p, q)
 and-tells (holds p) (fails n) = fails (λ w. n (w .1))
 and-tells (fails n) t = fails (λ w. n (w .0))
 
-true-tells : (b : Bool) → Tells (b ≡ true) b
+pub true-tells : (b : Bool) → Tells (b ≡ true) b
 true-tells b = tells b (λ e. e) (λ e h. true≢false (sym h ∙ e))
 
 module _ (marked : ℕ → Bool) (span : ℕ) where

@@ -28,7 +28,7 @@ use Rattle.replay.specs.Counts.{noTally, added, unfinishedIn, countsFrom
 use Rattle.replay.specs.Machines.{machineOf, noMachine, cellsEntered, runnerOf, cellsRan, tick, ranOver, countsOf}
 use Rattle.replay.specs.Rules.{sharedRefusal, startRefusal, ticksRefusal, logRefusal}
 use Rattle.replay.specs.Answers.{startAnswer, goOnAnswer, replayRefusal, replayAnswer}
-use Rattle.replay.specs.Totals.{totalsOver}
+use Rattle.replay.specs.Totals.{machineAt, totalsOver}
 use Rattle.replay.specs.Positions.{releasesAt, logRows, LogNumber, startRows, ReplayNumber}
 use Rattle.replay.proofs.Struck.{others-kept, runner-changed}
 use Rattle.replay.proofs.Joined.{accepted, ran-joined, ticks-joined, refusal-joined}
@@ -41,7 +41,7 @@ use Rattle.replay.proofs.Placed.{faults-small, task-good, OfTable, task
 use Rattle.replay.proofs.Kept.{GoodTasks, AllTimely, jobs-add-up}
 use Rattle.replay.proofs.Ticked.{ran-at}
 use Rattle.replay.proofs.Countdown.{reaches}
-use Rattle.replay.proofs.History.{machineAt, rest-counts, job-in-time}
+use Rattle.replay.proofs.History.{rest-counts, job-in-time}
 use Rattle.replay.proofs.Order.{log-positive, log-says, whole-tells, both-in-order}
 
 -- Which job runs, in a machine whose fault priorities are at most 8, as those of every sheet are (`levels-started`)
@@ -179,11 +179,11 @@ module _ (sheet log : List ℕ) (passed : replayRefusal sheet log ≡ 0) where
   abbrev counts : Counts
   counts = replayAnswer sheet log .counts
 
-  sheet-passed : sheetRefusal sheet ≡ 0
+  pub sheet-passed : sheetRefusal sheet ≡ 0
   unfolding replayRefusal startRefusal
   sheet-passed = none-of (sheetRefusal sheet) (sharedRefusal (tableOf sheet)) (none-of (startRefusal sheet) (logRefusal start log) passed .0) .0
 
-  log-passed : logRefusal start log ≡ 0
+  pub log-passed : logRefusal start log ≡ 0
   unfolding replayRefusal
   log-passed = none-of (startRefusal sheet) (logRefusal start log) passed .1
 

@@ -17,14 +17,10 @@ use Rattle.replay.specs.Step.{gapAfter}
 use Rattle.replay.specs.Machines.{tick}
 use Rattle.replay.specs.Rules.{tickRefusal, ticksRefusal}
 use Rattle.replay.specs.Positions.{ticksOf, releasesAt, faultsAt}
+use Rattle.replay.specs.Totals.{machineAt}
 use Rattle.replay.proofs.Ticked.{wait-after, rest-after, none-left}
 use Rattle.replay.proofs.Joined.{else-joined}
 use Rattle.replay.proofs.Countdown.{countdown}
-
--- the machine before the tick at a time
-unfoldable pub machineAt : Machine → List ℕ → ℕ → Machine
-machineAt m log zero = m
-machineAt m log (suc time) = tick (machineAt m log time) (releasesAt log time) (faultsAt log time)
 
 -- the refusal of the tick at a time
 abbrev pub refusalAt : Machine → List ℕ → ℕ → ℕ
@@ -80,7 +76,7 @@ ticks-first m (r ∷ f ∷ log) =
     ∙ sym (first-shift (refusalAt m (r ∷ f ∷ log)) (ticksOf log)) ∙ ap (firstBelow (refusalAt m (r ∷ f ∷ log))) one-more
 
 module _ (m : Machine) (log : List ℕ) where
-  tasks-same : (time : ℕ) → machineAt m log time .tasks ≡ m .tasks
+  pub tasks-same : (time : ℕ) → machineAt m log time .tasks ≡ m .tasks
   unfolding machineAt tick
   tasks-same zero = refl
   tasks-same (suc time) = tasks-same time

@@ -19,7 +19,7 @@ use Rattle.replay.specs.Cells.{noCell, cellAt, isReady, oneIf, countBelo
 use Rattle.replay.specs.Step.{released, entered, runs, isLast, isMissed, ended}
 use Rattle.replay.specs.Counts.{cellOf, gains, unfinishedIn}
 use Rattle.replay.specs.Machines.{cellsEntered, runnerOf, cellsRan, tickGains, tick, ranOver}
-use Rattle.replay.specs.Rules.{isStrange, isEarly, someEarly, tickRefusal, ticksRefusal}
+use Rattle.replay.specs.Rules.{isStrange, isEarly, someEarly, isHasty, tickRefusal, ticksRefusal}
 use Rattle.replay.specs.Totals.{plus, totalsOver}
 use Rattle.replay.proofs.Found.{some-found, not-holds}
 use Rattle.replay.proofs.Counted.{count-none, count-one, count-pairs}
@@ -40,7 +40,7 @@ Timely cell = isReady cell ≡ true → (1 ≤ cell .rest) × (cell .rest ≤ ce
 abbrev pub AllTimely : Machine → Type 0
 AllTimely m = (place : ℕ) → place < 8 → Timely (cellAt (m .cells) place)
 
-ready-some : (cell : Cell) → 1 ≤ cell .left → isReady cell ≡ true
+pub ready-some : (cell : Cell) → 1 ≤ cell .left → isReady cell ≡ true
 unfolding isReady
 ready-some cell some = simp (ne-eqb (cell .left) 0 (λ e. omega arith))
 
@@ -58,10 +58,11 @@ released-below releases n place none here = go (decLt place n)
         let bit : releases / 2 ^ place % 2 ≡ 1 = eqb-true (releases / 2 ^ place % 2) 1 here in
         absurd (omega arith)
 
--- what a tick that keeps the rules is known for: a release is of a task below the count whose wait is over
-record Legal (m : Machine) (releases : ℕ) : Type 0 where
-  below : (place : ℕ) → isReleased releases place ≡ true → place < m .count
-  free : (place : ℕ) → place < 8 → isReleased releases place ≡ true → cellAt (m .cells) place .wait ≡ 0
+-- what a tick that keeps the rules is known for: a release is of a task below the count whose wait is over, and a fault comes after the gap
+pub record Legal (m : Machine) (releases faults : ℕ) : Type 0 where
+  pub below : (place : ℕ) → isReleased releases place ≡ true → place < m .count
+  pub free : (place : ℕ) → place < 8 → isReleased releases place ≡ true → cellAt (m .cells) place .wait ≡ 0
+  pub spaced : isMarked faults ≡ true → m .gap ≡ 0
 
 passes : (b : Bool) (n r : ℕ) → cond b (suc n) r ≡ 0 → (b ≡ false) × (r ≡ 0)
 passes true n r e = absurd (omega arith)
@@ -71,16 +72,22 @@ neither : (a b : Bool) → (a || b) ≡ false → a ≡ false
 neither true b e = absurd (true≢false e)
 neither false b e = refl
 
-legal : (m : Machine) (releases faults : ℕ) → tickRefusal m releases faults ≡ 0 → Legal m releases
-unfolding tickRefusal isStrange someEarly isEarly
+pub legal : (m : Machine) (releases faults : ℕ) → tickRefusal m releases faults ≡ 0 → Legal m releases faults
+unfolding tickRefusal isStrange someEarly isEarly isHasty
 legal m releases faults e =
     let first = passes (isStrange (m .count) releases faults) 14 _ e in
     let second = passes (someEarly releases (cellAt (m .cells))) 15 _ (first .1) in
+    let third = passes (isHasty (m .gap) faults) 16 0 (second .1) in
     record {
       below = λ place here. released-below releases (m .count) place (neither (isAbove releases (m .count)) (hasOther faults) (first .0)) here;
       free = λ place low here. over place low here (second .0) (ℕ-discrete (cellAt (m .cells) place .wait) 0);
+      spaced = λ marked. past marked (third .0) (ℕ-discrete (m .gap) 0);
     }
   where
+    past : isMarked faults ≡ true → (isMarked faults && not (eqb (m .gap) 0)) ≡ false → Dec (m .gap ≡ 0) → m .gap ≡ 0
+    past marked calm (yes e′) = e′
+    past marked calm (no e′) = absurd (true≢false (sym (simp (marked, ne-eqb (m .gap) 0 e′)) ∙ calm))
+
     over : (place : ℕ) → place < 8 → isReleased releases place ≡ true → someBelow (λ k. isReleased releases k && not (eqb (cellAt (m .cells) k .wait) 0)) 8 ≡ false → Dec (cellAt (m .cells) place .wait ≡ 0) → cellAt (m .cells) place .wait ≡ 0
     over place low here none (yes e′) = e′
     over place low here none (no e′) = absurd (true≢false (sym (some-found (λ k. isReleased releases k && not (eqb (cellAt (m .cells) k .wait) 0)) place 8 low (simp (here, ne-eqb (cellAt (m .cells) place .wait) 0 e′))) ∙ none))
@@ -103,6 +110,38 @@ end-timely cell timely = go (leb (cell .rest) 1) refl
     go : (l : Bool) → leb (cell .rest) 1 ≡ l → not (eqb (cond l 0 (cell .left)) 0) ≡ true → (1 ≤ cell .rest - 1) × (cell .rest - 1 ≤ cell .wait - 1)
     go true e ready = absurd (true≢false (sym ready))
     go false e ready = omega (arith, leb-false (cell .rest) 1 e, timely ready)
+
+module _ (m : Machine) (releases faults : ℕ) where
+  -- the job at a place is finished: it runs, and has nothing left
+  abbrev isDone : ℕ → Bool
+  isDone place = runs (runnerOf m releases) place && eqb (cellAt (cellsRan m releases faults) place .left) 0
+
+  module _ (tasks : GoodTasks m) where
+    few-run : runnerOf m releases ≤ 8
+    unfolding runnerOf
+    few-run = runner-at-most (recordAt (m .tasks)) (cellAt (cellsEntered m releases)) (tasks .levels)
+
+    -- one job at most is finished, that of the place that runs
+    pub done-count : tickGains m releases faults .finished ≡ countBelow isDone 8
+    unfolding tickGains gains cellOf runs oneIf
+    done-count = go (ℕ-discrete who 0)
+      where
+        who : ℕ
+        who = runnerOf m releases
+
+        there : Bool
+        there = eqb (cellAt (cellsRan m releases faults) (who - 1) .left) 0
+
+        go : Dec (who ≡ 0) → oneIf (not (eqb who 0) && eqb (cellOf (cellsRan m releases faults) who .left) 0) ≡ countBelow (λ place. eqb (place + 1) who && eqb (cellAt (cellsRan m releases faults) place .left) 0) 8
+        go (yes idle) =
+            ap (λ (b : Bool). oneIf (not b && eqb (cellOf (cellsRan m releases faults) who .left) 0)) (eq-eqb who 0 idle)
+            ∙ sym (count-none (λ place. eqb (place + 1) who && eqb (cellAt (cellsRan m releases faults) place .left) 0) 8 (λ k below. simp (ne-eqb (k + 1) who (λ e. omega arith))))
+        go (no some) =
+            let same : who - 1 + 1 ≡ who = omega arith in
+            let few : who ≤ 8 = few-run in
+            ap (λ (b : Bool). oneIf (not b && eqb (cond b noCell (cellAt (cellsRan m releases faults) (who - 1)) .left) 0)) (ne-eqb who 0 some)
+            ∙ sym (count-one (λ place. eqb (place + 1) who && eqb (cellAt (cellsRan m releases faults) place .left) 0) (who - 1) 8 (omega arith) (λ k below other. simp (ne-eqb (k + 1) who (λ e. other (omega arith))))
+            ∙ ap (λ (b : Bool). oneIf (b && there)) (eq-eqb (who - 1 + 1) who same))
 
 module _ (m : Machine) (releases faults : ℕ) (tasks : GoodTasks m) (timely : AllTimely m) (kept : tickRefusal m releases faults ≡ 0) where
   -- releases: a job comes to a place that has none
@@ -139,10 +178,7 @@ module _ (m : Machine) (releases faults : ℕ) (tasks : GoodTasks m) (timely : A
       runs-first (recordAt (m .tasks)) (cellAt (cellsEntered m releases)) (tasks .levels) place (sym (eqb-true (place + 1) (runnerOf m releases) e)) .ready
 
   -- a job that runs is there afterwards or is finished
-  abbrev isDone : ℕ → Bool
-  isDone place = runs (runnerOf m releases) place && eqb (cellAt (cellsRan m releases faults) place .left) 0
-
-  run-counts : (place : ℕ) → place < 8 → oneIf (isReady (cellAt (cellsRan m releases faults) place)) + oneIf (isDone place) ≡ oneIf (isReady (cellAt (cellsEntered m releases) place)) + oneIf false
+  run-counts : (place : ℕ) → place < 8 → oneIf (isReady (cellAt (cellsRan m releases faults) place)) + oneIf (isDone m releases faults place) ≡ oneIf (isReady (cellAt (cellsEntered m releases) place)) + oneIf false
   unfolding oneIf isReady
   run-counts place below = go (runs (runnerOf m releases) place) refl
     where
@@ -171,32 +207,6 @@ module _ (m : Machine) (releases faults : ℕ) (tasks : GoodTasks m) (timely : A
           was-ready true here = runner-ready place here
           was-ready false here = sym (ap isReady (ran-at m releases faults place below ∙ others-kept (recordAt (m .tasks)) (isMarked faults) (runnerOf m releases) (cellAt (cellsEntered m releases)) place here)) ∙ ready
 
-  few-run : runnerOf m releases ≤ 8
-  unfolding runnerOf
-  few-run = runner-at-most (recordAt (m .tasks)) (cellAt (cellsEntered m releases)) (tasks .levels)
-
-  -- one job at most is finished, that of the place that runs
-  done-count : tickGains m releases faults .finished ≡ countBelow isDone 8
-  unfolding tickGains gains cellOf runs oneIf
-  done-count = go (ℕ-discrete who 0)
-    where
-      who : ℕ
-      who = runnerOf m releases
-
-      there : Bool
-      there = eqb (cellAt (cellsRan m releases faults) (who - 1) .left) 0
-
-      go : Dec (who ≡ 0) → oneIf (not (eqb who 0) && eqb (cellOf (cellsRan m releases faults) who .left) 0) ≡ countBelow (λ place. eqb (place + 1) who && eqb (cellAt (cellsRan m releases faults) place .left) 0) 8
-      go (yes idle) =
-          ap (λ (b : Bool). oneIf (not b && eqb (cellOf (cellsRan m releases faults) who .left) 0)) (eq-eqb who 0 idle)
-          ∙ sym (count-none (λ place. eqb (place + 1) who && eqb (cellAt (cellsRan m releases faults) place .left) 0) 8 (λ k below. simp (ne-eqb (k + 1) who (λ e. omega arith))))
-      go (no some) =
-          let same : who - 1 + 1 ≡ who = omega arith in
-          let few : who ≤ 8 = few-run in
-          ap (λ (b : Bool). oneIf (not b && eqb (cond b noCell (cellAt (cellsRan m releases faults) (who - 1)) .left) 0)) (ne-eqb who 0 some)
-          ∙ sym (count-one (λ place. eqb (place + 1) who && eqb (cellAt (cellsRan m releases faults) place .left) 0) (who - 1) 8 (omega arith) (λ k below other. simp (ne-eqb (k + 1) who (λ e. other (omega arith))))
-          ∙ ap (λ (b : Bool). oneIf (b && there)) (eq-eqb (who - 1 + 1) who same))
-
   pub tick-timely : AllTimely (tick m releases faults)
   tick-timely place below = subst Timely (sym (after-at m releases faults place below)) (end-timely (cellAt (cellsRan m releases faults) place) (run-timely place below))
 
@@ -208,9 +218,9 @@ module _ (m : Machine) (releases faults : ℕ) (tasks : GoodTasks m) (timely : A
       let end =
       count-pairs (λ k. isReady (cellAt (tick m releases faults .cells) k)) (λ k. isMissed (after k)) (λ k. isReady (after k)) (λ k. false) 8
       (λ k below. ap (λ (c : Cell). oneIf (isReady c) + oneIf (isMissed (after k))) (after-at m releases faults k below) ∙ end-counts (after k)) in
-      let run = count-pairs (λ k. isReady (after k)) isDone (λ k. isReady (cellAt (cellsEntered m releases) k)) (λ k. false) 8 run-counts in
+      let run = count-pairs (λ k. isReady (after k)) (isDone m releases faults) (λ k. isReady (cellAt (cellsEntered m releases) k)) (λ k. false) 8 run-counts in
       let enter = count-pairs (λ k. isReady (cellAt (cellsEntered m releases) k)) (λ k. false) (λ k. isReady (cellAt (m .cells) k)) (isReleased releases) 8 enter-counts in
-      omega (arith, none, end, run, enter, done-count)
+      omega (arith, none, end, run, enter, done-count m releases faults tasks)
 
 -- finished, missed and unfinished jobs of a log that keeps the rules are those released and those that were there
 pub jobs-add-up : (m : Machine) (log : List ℕ) → GoodTasks m → AllTimely m → ticksRefusal m log ≡ 0

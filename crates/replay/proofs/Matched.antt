@@ -14,8 +14,9 @@ use Rattle.replay.specs.Machines.{tick}
 use Rattle.replay.specs.Positions.{releasesAt}
 use Rattle.replay.specs.Shown.{logIn, shown, matching}
 use Rattle.replay.specs.Answers.{compared}
+use Rattle.replay.specs.Totals.{machineAt}
 use Rattle.replay.proofs.Going.{three-bytes}
-use Rattle.replay.proofs.History.{machineAt, releases-shift, machine-shift}
+use Rattle.replay.proofs.History.{releases-shift, machine-shift}
 
 -- the first tick of a record decides whether any is counted
 module _ (m : Machine) (r f ran : ℕ) (supplied : List ℕ) where

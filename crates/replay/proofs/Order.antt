@@ -22,14 +22,15 @@ use Rattle.replay.specs.Tick.{isReleased, isAbove, isMarked, hasOther}
 use Rattle.replay.specs.Cells.{cellAt}
 use Rattle.replay.specs.Rules.{sharedRefusal, startRefusal, isStrange, isEarly, someEarly, isHasty, tickRefusal, ticksRefusal, logRefusal}
 use Rattle.replay.specs.Positions.{ticksOf, releasesAt, faultsAt, Sooner, tickRows, logRows, LogNumber, startRows, StartNumber, ReplayNumber}
+use Rattle.replay.specs.Totals.{machineAt}
 use Rattle.replay.proofs.Binary.{twice}
 use Rattle.replay.proofs.Found.{not-holds, some-where, some-found}
 use Rattle.replay.proofs.Going.{odd-refused, even-ticks}
 use Rattle.replay.proofs.Kept.{released-below}
 use Rattle.replay.proofs.Countdown.{sooner-tells}
-use Rattle.replay.proofs.History.{machineAt, refusalAt, ticks-first, count-same, wait-counts, gap-counts}
+use Rattle.replay.proofs.History.{refusalAt, ticks-first, count-same, wait-counts, gap-counts}
 
-tells-true : {P : Type 0} {b : Bool} → Tells P b → b ≡ true → P
+pub tells-true : {P : Type 0} {b : Bool} → Tells P b → b ≡ true → P
 tells-true (holds p) e = p
 tells-true (fails n) e = absurd (true≢false (sym e))
 

@@ -1,4 +1,4 @@
--- What a reader of the crate's promises must believe, in the order of asks 1 and 7. `Totals` and `Positions` are what theorems speak of, and `Bits` is an inner device; no public promise cites them.
+-- What a reader of the crate's promises must believe, in the order of asks 1 and 7. `Positions` and `Totals` are what theorems speak of, and `Bits` is an inner device; no public promise cites them.
 pub mod Tick
 pub mod Cells
 pub mod Runner
@@ -8,6 +8,6 @@ pub mod Machines
 pub mod Rules
 pub mod Shown
 pub mod Answers
-pub mod Totals
 pub mod Positions
+pub mod Totals
 pub mod Bits

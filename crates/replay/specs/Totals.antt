@@ -1,10 +1,16 @@
--- What the ticks of a log add to the counts as plain numbers, without a bound. The theorems about the counts speak of them; no public promise does.
-use Prim.Native.Nat.{ℕ, _+_}
+-- A machine tick by tick along a log: the machine before each tick, and what the ticks add to the counts as plain numbers, without a bound. Theorems speak of them; no public promise does.
+use Prim.Native.Nat.{ℕ, zero, suc, _+_}
 use mathlib.Core.List.{List, [], _∷_}
 use Rattle.replay.specs.declared.Tally.{Tally}
 use Rattle.replay.specs.declared.Machine.{Machine}
 use Rattle.replay.specs.Counts.{noTally}
 use Rattle.replay.specs.Machines.{tickGains, tick}
+use Rattle.replay.specs.Positions.{releasesAt, faultsAt}
+
+-- the machine before the tick at a time
+unfoldable pub machineAt : Machine → List ℕ → ℕ → Machine
+machineAt m log zero = m
+machineAt m log (suc time) = tick (machineAt m log time) (releasesAt log time) (faultsAt log time)
 
 -- two tallies added
 unfoldable pub plus : Tally → Tally → Tally

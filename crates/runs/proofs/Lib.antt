@@ -1,0 +1,11 @@
+-- Laws that belong to no one function, lowest first.
+pub mod Summed
+pub mod Paced
+pub mod Counting
+pub mod Window
+pub mod Along
+pub mod Equation
+pub mod Raised
+pub mod Started
+pub mod Demands
+pub mod Rows
