@@ -11,6 +11,7 @@
 #include <string.h>
 #include <time.h>
 
+#include "bounding.h"
 #include "climbing.h"
 #include "fidhaqooban.h"
 #include "sheets.h"
@@ -22,8 +23,8 @@
 #define LOG_TICKS 10000
 #define LENGTH(array) (sizeof(array) / sizeof((array)[0]))
 
-/* The sides: the library, the baseline, and the baseline that asks the lowest task first, which one table has. */
-enum { LIBRARY, CLIMBING, LOWEST_FIRST, SIDES };
+/* The sides: the library, the baseline, C with the library's bounds and halving, and the baseline that asks the lowest task first, which one table has. */
+enum { LIBRARY, CLIMBING, BOUNDING, LOWEST_FIRST, SIDES };
 
 /* The calls of one side. */
 struct side {
@@ -83,6 +84,8 @@ static const struct side sides[SIDES] = {
     {"library", fq_judge, fq_rewrite, fq_response, fq_verdict, fq_least_interval, fq_next, fq_list, fq_replay},
     {"climbing C", climbing_judge, climbing_rewrite, climbing_response, climbing_verdict, climbing_least_interval,
      climbing_next, climbing_list, climbing_replay},
+    {"C with bounds", climbing_judge, climbing_rewrite, climbing_response, climbing_verdict, bounding_least_interval,
+     bounding_next, bounding_list, climbing_replay},
     {"climbing C, lowest first", climbing_judge, climbing_rewrite, climbing_response, climbing_verdict,
      climbing_least_interval, lowest_first_next, lowest_first_list, climbing_replay},
 };
@@ -219,6 +222,7 @@ static struct row main_rows[] = {
      .deadline = 115},
     {.name = "list of 8 tasks, none: last record late", .use = use_list, .sheet = &everyday, .place = 7, .deadline = 29},
     {.name = "least interval of 8 tasks, 171", .use = use_least_interval, .sheet = &everyday},
+    {.name = "one step of the walk of 8 tasks", .use = use_next, .sheet = &everyday},
     {.name = "walk through all 720 of 6 tasks", .use = use_walk, .sheet = &everyday, .count = 6},
     {.name = "replay of 10000 ticks of 8 tasks", .use = use_replay, .sheet = &everyday},
 };
@@ -256,13 +260,13 @@ static struct row slow_rows[] = {
     {.name = "verdict", .use = use_verdict, .sheet = &slow_verdict,
      .reason = "short jobs and many faults: 58631 steps before a record is late"},
     {.name = "least interval, none", .use = use_least_interval, .sheet = &slow_interval,
-     .reason = "all 65535 intervals are tried, most after long climbs"},
+     .reason = "long climbs at most intervals"},
     {.name = "list of 6 tasks, none", .use = use_list, .sheet = &slow_steps,
      .reason = "jobs at nearly every tick: each of 720 choices is refuted after some 15000 steps"},
     {.name = "list of 8 tasks, none", .use = use_list, .sheet = &slow_choices,
      .reason = "each of 40320 choices is refuted after some 190 steps"},
     {.name = "one step of the walk, end", .use = use_next, .sheet = &slow_choices,
-     .reason = "the same sheet: one call tries all 40320 choices"},
+     .reason = "the same sheet: one call goes through all 40320 choices"},
 };
 
 static struct row refused_rows[] = {{.name = "refused calls", .use = use_refused, .sheet = &everyday}};

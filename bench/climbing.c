@@ -3,15 +3,9 @@
  * indexed by priority, and every least time is found by climbing from its start.
  */
 #include "climbing.h"
-#include "reading.h"
-
-#define ENTRY_BYTES 4
-#define MOST_INTERVAL 65535
-#define LOWEST 1
+#include "climbs.h"
 
 #define REFUSED_PLACE 12
-#define REFUSED_CHOICE 13
-#define REFUSED_ROOM 11
 
 /* What a span has to cover: a fixed part, the jobs above a level except one task's, and a backup per fault. */
 struct burden {
@@ -68,21 +62,17 @@ static uint32_t climb(const struct table *table, const struct burden *burden, ui
     return 0;
 }
 
-/* The time of a task while faults strike others only, or 0 where it is late. */
-static uint32_t struck_elsewhere(const struct table *table, unsigned own)
+uint32_t elsewhere_with(const struct table *table, unsigned own, uint32_t backup)
 {
     const struct record *record = &table->records[own];
-    struct burden burden = {record->cost, own, own, largest_backup(table, own, own)};
+    struct burden burden = {record->cost, own, own, backup};
 
     return climb(table, &burden, record->cost, record->deadline);
 }
 
-/* The time of a task that is struck itself, or 0 where it is late; the tasks between cost one job more than they come. */
-static uint32_t struck_itself(const struct table *table, unsigned own)
+uint32_t itself_with(const struct table *table, unsigned own, unsigned level, uint32_t backup)
 {
     const struct record *record = &table->records[own];
-    unsigned level = record->fault_priority;
-    uint32_t backup = largest_backup(table, level, 0);
     struct burden burden = {(int64_t)record->cost + record->backup - backup, level, own, backup};
 
     for (unsigned priority = level + 1; priority < own; priority++)
@@ -90,8 +80,21 @@ static uint32_t struck_itself(const struct table *table, unsigned own)
     return climb(table, &burden, (uint32_t)record->cost + record->backup, record->deadline);
 }
 
-/* The response time of a task, or 0 where it is late. */
-static uint32_t response(const struct table *table, unsigned own)
+/* The time of a task while faults strike others only, or 0 where it is late. */
+static uint32_t struck_elsewhere(const struct table *table, unsigned own)
+{
+    return elsewhere_with(table, own, largest_backup(table, own, own));
+}
+
+/* The time of a task that is struck itself, or 0 where it is late; the tasks between cost one job more than they come. */
+static uint32_t struck_itself(const struct table *table, unsigned own)
+{
+    unsigned level = table->records[own].fault_priority;
+
+    return itself_with(table, own, level, largest_backup(table, level, 0));
+}
+
+uint32_t response(const struct table *table, unsigned own)
 {
     uint32_t elsewhere = struck_elsewhere(table, own);
     uint32_t itself = elsewhere == 0 ? 0 : struck_itself(table, own);
@@ -99,8 +102,7 @@ static uint32_t response(const struct table *table, unsigned own)
     return itself == 0 || itself > elsewhere ? itself : elsewhere;
 }
 
-/* Whether no task is late; the tasks are tried in record order up to the first late one. */
-static int passes(const struct table *table)
+int passes(const struct table *table)
 {
     for (unsigned place = 0; place < table->count; place++)
         if (response(table, table->priority_at[place]) == 0)
@@ -108,15 +110,13 @@ static int passes(const struct table *table)
     return 1;
 }
 
-/* Sets the first choice of fault priorities. */
-static void set_first(struct table *table)
+void set_first(struct table *table)
 {
     for (unsigned priority = 1; priority <= table->count; priority++)
         table->records[priority].fault_priority = 1;
 }
 
-/* Sets the choice after the present one, or answers 0 after the last. */
-static int set_following(struct table *table)
+int set_following(struct table *table)
 {
     for (unsigned place = table->count; place > 0; place--) {
         unsigned priority = table->priority_at[place - 1];
@@ -130,8 +130,7 @@ static int set_following(struct table *table)
     return 0;
 }
 
-/* The present choice as a number, four bits for each record. */
-static uint32_t pack_choice(const struct table *table)
+uint32_t pack_choice(const struct table *table)
 {
     uint32_t choice = 0;
 
@@ -140,8 +139,7 @@ static uint32_t pack_choice(const struct table *table)
     return choice;
 }
 
-/* Sets a choice from its number, or answers 0 where it is not allowed. */
-static int set_choice(struct table *table, uint32_t choice)
+int set_choice(struct table *table, uint32_t choice)
 {
     for (unsigned place = 0; place < table->count; place++) {
         unsigned priority = table->priority_at[place];
@@ -172,8 +170,7 @@ static size_t list_choices(struct table *table, uint8_t *out)
     return entries;
 }
 
-/* How many choices a sheet of so many tasks has. */
-static size_t count_choices(unsigned count)
+size_t count_choices(unsigned count)
 {
     size_t choices = 1;
 
@@ -226,10 +223,7 @@ int64_t climbing_verdict(const uint8_t *sheet, size_t len)
     return refusal != 0 ? -refusal : passes(&table);
 }
 
-/*
- * The least interval at which the sheet passes, 0 where there is none, or minus the refusal. Every interval
- * is tried from 1 up: a longer interval does not always help, and the library assumes nothing of the kind.
- */
+/* The least interval at which the sheet passes, 0 where there is none, or minus the refusal: every one is tried from 1 up. */
 int64_t climbing_least_interval(const uint8_t *sheet, size_t len)
 {
     struct table table;

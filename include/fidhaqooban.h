@@ -18,9 +18,9 @@
  * Memory and time: no heap, no state, no call of anything outside the library; FQ_STACK_BYTES bounds the stack.
  * The x86-64 code uses the SSE registers, so whoever calls it where these are not saved (a kernel, an
  * interrupt handler) saves them first. fq_judge, fq_write, fq_rewrite, fq_record and fq_grant take about a microsecond, fq_mend a few;
- * fq_response, fq_slack and fq_verdict microseconds to milliseconds; fq_least_interval, fq_next and fq_list judge up to
- * 65535 intervals or 40320 choices and CAN TAKE MINUTES on a sheet of eight tasks (docs/PERFORMANCE.md). Where the
- * lowest task, of priority 1, is late, no choice passes, and fq_next and fq_list say so from that one response.
+ * fq_response, fq_slack and fq_verdict microseconds to milliseconds; fq_least_interval, fq_next and fq_list microseconds
+ * to some tens of milliseconds, for all 40320 choices of eight tasks too (docs/PERFORMANCE.md has the slowest sheets).
+ * Where the lowest task, of priority 1, is late, no choice passes, and fq_next and fq_list say so from that one response.
  *
  * Build the library with `rt staticlib fidhaqooban` and link target/staticlib/libfidhaqooban.a (x86-64).
  */
@@ -35,7 +35,7 @@ extern "C" {
 #endif
 
 /* The version of this header and library; `./desk --version` prints the same. */
-#define FQ_VERSION "1.12.0"
+#define FQ_VERSION "1.12.1"
 
 /*
  * What a refused call gives, in the order in which the rules are tried: the number of the first rule broken,

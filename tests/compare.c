@@ -83,6 +83,8 @@ static void print_tally(const struct comparison *comparison, const struct tally 
            tally->figures, tally->least_intervals_of_none, tally->listed_choices);
     printf("lists where the lowest task is late: %" PRIu64 ", other empty lists: %" PRIu64 "\n", tally->lists_with_lowest_late,
            tally->other_empty_lists);
+    printf("lists of some choices and not all: %" PRIu64 ", with more than four tasks: %" PRIu64 "\n", tally->partial_lists,
+           tally->long_partial_lists);
     printf("%" PRIu64 " codec sheets, %" PRIu64 " analysis sheets (%" PRIu64 " pass, %" PRIu64 " do not), ",
            tally->codec_sheets, tally->analysis_sheets, tally->passing, tally->late);
     printf("%" PRIu64 " least intervals, %" PRIu64 " lists (%" PRIu64 " of eight tasks), %" PRIu64 " logs, %" PRIu64 " requests for locks, %" PRIu64 " sheets typed by hand, ",
@@ -107,7 +109,7 @@ static bool every_kind_run(const struct tally *tally)
     }
     return tally->judged[0] > 0 && tally->judged[0] < tally->codec_sheets && tally->judged[BAD_SHARE] > 0 && tally->passing > 0 &&
            tally->late > 0 && tally->least_intervals > 0 && tally->lists > tally->lists_of_eight &&
-           tally->lists_of_eight > 0 && tally->lists_with_lowest_late > 0 &&
+           tally->lists_of_eight > 0 && tally->lists_with_lowest_late > 0 && tally->long_partial_lists > 0 &&
            tally->lists_with_lowest_late < tally->lists && tally->replayed[0] > 0 && tally->accepted > 0 && tally->differing > 0 &&
            every_lock_run(tally) && tally->unchanged > 0 && tally->unchanged < tally->mended[0] && tally->mended[0] < tally->typed;
 }

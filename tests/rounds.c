@@ -26,6 +26,8 @@ enum {
     LONGEST_MODEST = 500,
     LONGEST_LARGE = 5000,
     LONGEST_LISTED = 80,
+    /* So many tasks have 24 choices at most. */
+    FEW_LISTED = 4,
     LONGEST_EIGHT_LISTED = 40,
     LONGEST_LEAST_INTERVAL = 60,
     LONGEST_LEAST_INTERVAL_FOUND = 600,
@@ -279,6 +281,8 @@ static void check_lists(struct comparison *comparison, struct tally *tally, cons
     tally->lists_of_eight += draft->tasks == MOST_TASKS;
     tally->lists_with_lowest_late += is_lowest_late(draft);
     tally->other_empty_lists += entries == 0 && !is_lowest_late(draft);
+    tally->partial_lists += entries > 0 && ENTRY_BYTES * entries < room;
+    tally->long_partial_lists += draft->tasks > FEW_LISTED && entries > 0 && ENTRY_BYTES * entries < room;
     tally->listed_choices += entries;
 }
 

@@ -24,6 +24,9 @@ struct tally {
     uint64_t lists_of_eight;
     uint64_t lists_with_lowest_late;
     uint64_t other_empty_lists;
+    /* Lists that hold some of the choices and not all, and those of them with more than four tasks. */
+    uint64_t partial_lists;
+    uint64_t long_partial_lists;
     uint64_t listed_choices;
     uint64_t logs;
     uint64_t replayed[REPLAY_JUDGEMENTS];

@@ -19,5 +19,7 @@ pub mod Reordered
 pub mod Placing
 pub mod EachTick
 pub mod Demands
+pub mod Halving
+pub mod Borne
 pub mod Refused
 pub mod Unique

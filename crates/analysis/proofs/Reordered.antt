@@ -1,7 +1,7 @@
 -- Document 02, request 10: the same tasks in another order have the same responses and the same verdict, since a sum, a largest and a test over records do not depend on their order. Assumes nothing.
 use Prim.Native.Nat.{ℕ, _+_, _-_, _*_, _<_}
 use mathlib.Core.Path.{_≡_, refl, sym, ap, ap₂, _∙_, fun-ext}
-use mathlib.Core.Bool.{Bool, cond, not, _&&_}
+use mathlib.Core.Bool.{Bool, true, false, cond, not, _&&_}
 use native.Mathlib.Decide.{ℕ-discrete}
 use borrow.Author.Tests.{eq-eqb, ne-eqb}
 use lib.Dec.{eqb, ltb}
@@ -17,6 +17,7 @@ use Rattle.analysis.specs.Equations.{supplierOf, isBetween, struckElsewh
 use Rattle.analysis.specs.Search.{leastWithin}
 use Rattle.analysis.specs.Response.{timeElsewhere, timeItself, responseWithin, responseTime, isLate, late, passes}
 use Rattle.analysis.specs.Answers.{entryFrom, entryOf}
+use Rattle.analysis.specs.Bounds.{askedElsewhere, askedItself, askedWith, bears}
 use Rattle.analysis.proofs.Totalled.{sum-agree, most-agree}
 use Rattle.analysis.proofs.Gathered.{sum-reordered, most-reordered, some-reordered}
 
@@ -69,20 +70,45 @@ module _ (s held : Tasks) (rank : ℕ → ℕ) (same : SameTasks s held rank) wh
         sum-held (between s level fault L) (between held level fault L)
         (λ k h. ap (λ (r : Record). cond (ltb fault (r .priority) && ltb (r .priority) level) ((1 + up L (r .period)) * r .cost) 0) (same .task k h))
 
-    elsewhere-held : (L : ℕ) → struckElsewhere s i L ≡ struckElsewhere held (rank i) L
-    unfolding struckElsewhere backupElsewhere
-    elsewhere-held L =
+    -- what the equations ask with any M, and with any q and N
+    asked-elsewhere-held : (M L : ℕ) → askedElsewhere s i M L ≡ askedElsewhere held (rank i) M L
+    unfolding askedElsewhere
+    asked-elsewhere-held M L =
         simp (same .task i low, same .interval, same .round, same .share)
-        (ap₂ (λ (a m : ℕ). s .at i .cost + a + up L (s .interval) * m + supplierOf (s .round) (s .share) L) (above-held (s .at i .priority) L) (largest-held (others i) (others (rank i)) (s .at i .priority) (λ k h. others-held i k low h)))
+        (ap (λ (a : ℕ). s .at i .cost + a + up L (s .interval) * M + supplierOf (s .round) (s .share) L) (above-held (s .at i .priority) L))
+
+    asked-itself-held : (q N L : ℕ) → askedItself s i q N L ≡ askedItself held (rank i) q N L
+    unfolding askedItself
+    asked-itself-held q N L =
+        simp (same .task i low, same .interval, same .round, same .share)
+        (ap₂ (λ (a b : ℕ). s .at i .cost + s .at i .backup + a + b + (up L (s .interval) - 1) * N + supplierOf (s .round) (s .share) L)
+        (above-held (s .at i .priority) L) (between-held (s .at i .priority) q L))
+
+    -- M and N
+    backup-elsewhere-held : backupElsewhere s i ≡ backupElsewhere held (rank i)
+    unfolding backupElsewhere
+    backup-elsewhere-held = simp (same .task i low) (largest-held (others i) (others (rank i)) (s .at i .priority) (λ k h. others-held i k low h))
+
+    backup-itself-held : backupFromFault s i ≡ backupFromFault held (rank i)
+    unfolding backupFromFault everyone
+    backup-itself-held = simp (same .fault i low) (largest-held everyone everyone (s .fault i) (λ k h. refl))
+
+    elsewhere-held : (L : ℕ) → struckElsewhere s i L ≡ struckElsewhere held (rank i) L
+    unfolding struckElsewhere askedElsewhere
+    elsewhere-held L = asked-elsewhere-held (backupElsewhere s i) L ∙ ap (λ (M : ℕ). askedElsewhere held (rank i) M L) backup-elsewhere-held
 
     itself-held : (L : ℕ) → struckItself s i L ≡ struckItself held (rank i) L
-    unfolding struckItself backupFromFault isBetween everyone
-    itself-held L =
-        simp (same .task i low, same .fault i low, same .interval, same .round, same .share)
-        (ap₂ (λ (a m : ℕ). s .at i .cost + s .at i .backup + a + sumBelow (between s (s .at i .priority) (s .fault i) L) (s .count) + (up L (s .interval) - 1) * m + supplierOf (s .round) (s .share) L)
-        (above-held (s .at i .priority) L) (largest-held everyone everyone (s .fault i) (λ k h. refl))
-        ∙ ap (λ (b : ℕ). s .at i .cost + s .at i .backup + sumBelow (above held (s .at i .priority) L) (held .count) + b + (up L (s .interval) - 1) * largestBackup held everyone (s .fault i) + supplierOf (s .round) (s .share) L)
-        (between-held (s .at i .priority) (s .fault i) L))
+    unfolding struckItself isBetween askedItself
+    itself-held L = asked-itself-held (s .fault i) (backupFromFault s i) L ∙ ap₂ (λ (q N : ℕ). askedItself held (rank i) q N L) (sym (same .fault i low)) backup-itself-held
+
+    -- whether it bears a backup
+    pub bears-held : (q backup : ℕ) → bears held (rank i) q backup ≡ bears s i q backup
+    unfolding bears askedWith
+    bears-held q backup = ap₂ (λ (D : ℕ) (f : ℕ → ℕ). not (isLate D (leastWithin f 1 65535))) (ap (λ (r : Record). r .deadline) (same .task i low)) (sym (fun-ext (asked (eqb q 0))))
+      where
+        asked : (is : Bool) (L : ℕ) → cond is (askedElsewhere s i backup) (askedItself s i q backup) L ≡ cond is (askedElsewhere held (rank i) backup) (askedItself held (rank i) q backup) L
+        asked true L = asked-elsewhere-held backup L
+        asked false L = asked-itself-held q backup L
 
     time-elsewhere-held : (limit : ℕ) → timeElsewhere limit s i ≡ timeElsewhere limit held (rank i)
     unfolding timeElsewhere

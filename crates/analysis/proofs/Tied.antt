@@ -1,8 +1,8 @@
 -- The one demand that the code computes over records held from the highest priority to the lowest, tied to the two equations; and it rises with the length. Assumes nothing.
 use Prim.Native.Nat.{ℕ, zero, suc, _+_, _-_, _*_, _≤_, _<_}
-use mathlib.Core.Path.{_≡_, refl, sym, ap, _∙_}
+use mathlib.Core.Path.{_≡_, refl, sym, _∙_}
 use mathlib.Core.Bool.{true, false, cond, not, _&&_}
-use mathlib.Core.List.{List}
+use mathlib.Core.List.{List, []}
 use native.Mathlib.Nat.{add-le-add, mul-le-mul-right, suc-mul}
 use native.Mathlib.Decide.{ℕ-discrete}
 use native.Mathlib.Omega.{arith}
@@ -17,7 +17,8 @@ use Rattle.analysis.specs.Rounding.{up}
 use Rattle.analysis.specs.Totals.{sumBelow}
 use Rattle.analysis.specs.Tasks.{Tasks, tasksOf}
 use Rattle.analysis.specs.Backups.{others, everyone, backupOf, largestBackup, backupElsewhere, backupFromFault}
-use Rattle.analysis.specs.Equations.{supplierOf, isBetween, struckElsewhere, struckItself}
+use Rattle.analysis.specs.Equations.{supplierOf}
+use Rattle.analysis.specs.Bounds.{askedElsewhere, askedItself}
 use Rattle.analysis.specs.Demand.{Sorted, Chosen, largestBefore, runsOf, loadOf, demandOf}
 use Rattle.analysis.proofs.Rounding.{up-rises, up-some, up-one}
 use Rattle.analysis.proofs.Totalled.{sum-plus, sum-rises, sum-from}
@@ -57,20 +58,16 @@ first-paid (suc u) n h =
     let rest : suc u - 1 ≡ u = omega arith in
     rw rest (suc-mul u n)
 
--- the record at a rank of a table held in order, with a choice's fault priorities
-module _ (t : Table) (interval : ℕ) (faults : List ℕ) (sorted : Sorted t) (chosen : Chosen t faults) (i : ℕ) (low : i < t .count) where
+-- the record at a rank of a table held in order
+module _ (t : Table) (interval : ℕ) (sorted : Sorted t) (i : ℕ) (low : i < t .count) where
   abbrev tasks : Tasks
-  tasks = tasksOf t interval faults
+  tasks = tasksOf t interval []
 
   abbrev priority : ℕ → ℕ
   priority k = recordAt (t .records) k .priority
 
   abbrev run : ℕ → ℕ → ℕ
   run L k = up L (recordAt (t .records) k .period) * recordAt (t .records) k .cost
-
-  -- the records above its fault priority are those before this rank
-  abbrev pub last : ℕ
-  last = t .count - getD faults i 0
 
   -- "with a priority above p": those before it
   above-tied : (L : ℕ) → sumBelow (λ k. cond (ltb (priority i) (priority k)) (run L k) 0) (t .count) ≡ runsOf tasks 0 i L
@@ -83,76 +80,77 @@ module _ (t : Table) (interval : ℕ) (faults : List ℕ) (sorted : Sorted t) (c
       f : ℕ → ℕ
       f k = cond (ltb (priority i) (priority k)) (run L k) 0
 
-  -- "above q and below p": those after it and before the last, each as often as L has periods and once more
-  once-more : (L k : ℕ) → k < t .count → (1 + up L (recordAt (t .records) k .period)) * recordAt (t .records) k .cost ≡ run L k + run 1 k
-  once-more L k below = rw (up-one (recordAt (t .records) k .period) (sorted .period k below)) (omega arith)
+  -- the demand that stands for the equation of a task struck elsewhere, with any M
+  abbrev pub demandElsewhere : ℕ → Demand
+  demandElsewhere M = record { base = recordAt (t .records) i .cost; rank = i; until = 0; backup = M; paid = 0 }
 
-  between-tied : (L : ℕ) → sumBelow (λ k. cond (isBetween tasks i k) ((1 + up L (recordAt (t .records) k .period)) * recordAt (t .records) k .cost) 0) (t .count) ≡ runsOf tasks (i + 1) last L + runsOf tasks (i + 1) last 1
-  unfolding runsOf isBetween
-  between-tied L =
-      let here = sorted .priority i low in
-      let fault = chosen i low in
-      sum-until f f last (t .count) (omega arith) (λ k before. refl) (λ k after below. rw (le-ltb (getD faults i 0) (priority k) (omega (arith, sorted .priority k below))) refl)
-      ∙ sum-from f (λ k. run L k + run 1 k) (i + 1) last
-      (λ k before below. rw (lt-ltb (getD faults i 0) (priority k) (omega (arith, sorted .priority k (omega arith))), le-ltb (priority k) (priority i) (omega (arith, sorted .priority k (omega arith)))) refl)
-      (λ k after below. rw (lt-ltb (getD faults i 0) (priority k) (omega (arith, sorted .priority k (omega arith))), lt-ltb (priority k) (priority i) (omega (arith, sorted .priority k (omega arith)))) (once-more L k (omega arith)))
-      ∙ sum-plus (λ k. run L (i + 1 + k)) (λ k. run 1 (i + 1 + k)) (last - (i + 1))
-    where
-      f : ℕ → ℕ
-      f k = cond (ltb (getD faults i 0) (priority k) && ltb (priority k) (priority i)) ((1 + up L (recordAt (t .records) k .period)) * recordAt (t .records) k .cost) 0
+  pub elsewhere-tied : (M L : ℕ) → demandOf tasks (demandElsewhere M) L ≡ askedElsewhere tasks i M L
+  unfolding demandOf loadOf askedElsewhere
+  elsewhere-tied M L = omega (arith, above-tied L, no-runs tasks i L)
+
+  -- under a fault priority
+  module _ (fault : ℕ) (fits : fault + i ≤ t .count) where
+    -- the records above its fault priority are those before this rank
+    abbrev pub last : ℕ
+    last = t .count - fault
+
+    -- "above q and below p": those after it and before the last, each as often as L has periods and once more
+    once-more : (L k : ℕ) → k < t .count → (1 + up L (recordAt (t .records) k .period)) * recordAt (t .records) k .cost ≡ run L k + run 1 k
+    once-more L k below = rw (up-one (recordAt (t .records) k .period) (sorted .period k below)) (omega arith)
+
+    abbrev between : ℕ → ℕ → ℕ
+    between L k = cond (ltb fault (priority k) && ltb (priority k) (priority i)) ((1 + up L (recordAt (t .records) k .period)) * recordAt (t .records) k .cost) 0
+
+    between-tied : (L : ℕ) → sumBelow (between L) (t .count) ≡ runsOf tasks (i + 1) last L + runsOf tasks (i + 1) last 1
+    unfolding runsOf
+    between-tied L =
+        let here = sorted .priority i low in
+        sum-until (between L) (between L) last (t .count) (omega arith) (λ k before. refl) (λ k after below. rw (le-ltb fault (priority k) (omega (arith, sorted .priority k below))) refl)
+        ∙ sum-from (between L) (λ k. run L k + run 1 k) (i + 1) last
+        (λ k before below. rw (lt-ltb fault (priority k) (omega (arith, sorted .priority k (omega arith))), le-ltb (priority k) (priority i) (omega (arith, sorted .priority k (omega arith)))) refl)
+        (λ k after below. rw (lt-ltb fault (priority k) (omega (arith, sorted .priority k (omega arith))), lt-ltb (priority k) (priority i) (omega (arith, sorted .priority k (omega arith)))) (once-more L k (omega arith)))
+        ∙ sum-plus (λ k. run L (i + 1 + k)) (λ k. run 1 (i + 1 + k)) (last - (i + 1))
+
+    -- the demand that stands for the equation of a task struck itself, with any N, from a length of 1 on
+    abbrev pub demandItself : ℕ → Demand
+    demandItself N = record { base = recordAt (t .records) i .cost + recordAt (t .records) i .backup + runsOf tasks (i + 1) last 1; rank = i; until = last; backup = N; paid = N }
+
+    pub itself-tied : (N L : ℕ) → 1 ≤ interval → 1 ≤ L → demandOf tasks (demandItself N) L ≡ askedItself tasks i fault N L
+    unfolding demandOf loadOf askedItself
+    itself-tied N L some long = omega (arith, above-tied L, between-tied L, first-paid (up L interval) N (up-some L interval some long))
+
+    -- which asks its base of every length
+    pub itself-base : (N L : ℕ) → recordAt (t .records) i .cost + recordAt (t .records) i .backup + runsOf tasks (i + 1) last 1 ≤ askedItself tasks i fault N L
+    unfolding askedItself
+    itself-base N L = omega (arith, between-tied L)
+
+-- what M and N are there, under a choice's fault priorities
+module _ (t : Table) (interval : ℕ) (faults : List ℕ) (sorted : Sorted t) (chosen : Chosen t faults) (i : ℕ) (low : i < t .count) where
+  abbrev level : ℕ
+  level = recordAt (t .records) i .priority
 
   -- a backup that runs below the level brings nothing
-  too-low : (k level : ℕ) → getD faults k 0 < level → backupOf (recordAt (t .records) k) true (getD faults k 0) level ≡ 0
+  too-low : (k above : ℕ) → getD faults k 0 < above → backupOf (recordAt (t .records) k) true (getD faults k 0) above ≡ 0
   unfolding backupOf
-  too-low k level h = simp (lt-leb level (getD faults k 0) h)
+  too-low k above h = simp (lt-leb above (getD faults k 0) h)
 
   -- M is the largest of those before it
-  elsewhere-backup : largestBefore tasks i (priority i) ≡ backupElsewhere tasks i
+  pub elsewhere-backup : largestBefore (tasksOf t 0 faults) i level ≡ backupElsewhere (tasksOf t interval faults) i
   unfolding largestBefore backupElsewhere largestBackup others
   elsewhere-backup =
       sym
-      (most-until (λ k. backupOf (recordAt (t .records) k) (not (eqb k i)) (getD faults k 0) (priority i)) (λ k. backupOf (recordAt (t .records) k) true (getD faults k 0) (priority i)) i (t .count) (omega arith)
+      (most-until (λ k. backupOf (recordAt (t .records) k) (not (eqb k i)) (getD faults k 0) level) (λ k. backupOf (recordAt (t .records) k) true (getD faults k 0) level) i (t .count) (omega arith)
       (λ k before. rw (ne-eqb k i (λ e. omega arith)) refl) (λ k after below. go k after below (ℕ-discrete k i)))
     where
-      go : (k : ℕ) → i ≤ k → k < t .count → Dec (k ≡ i) → backupOf (recordAt (t .records) k) (not (eqb k i)) (getD faults k 0) (priority i) ≡ 0
-      go k after below (yes e) = rw (eq-eqb k i e) (unmeant (recordAt (t .records) k) (getD faults k 0) (priority i))
-      go k after below (no e) = rw (ne-eqb k i e) (too-low k (priority i) (omega (arith, sorted .priority i low, chosen k below .1)))
+      go : (k : ℕ) → i ≤ k → k < t .count → Dec (k ≡ i) → backupOf (recordAt (t .records) k) (not (eqb k i)) (getD faults k 0) level ≡ 0
+      go k after below (yes e) = rw (eq-eqb k i e) (unmeant (recordAt (t .records) k) (getD faults k 0) level)
+      go k after below (no e) = rw (ne-eqb k i e) (too-low k level (omega (arith, sorted .priority i low, chosen k below .1)))
 
   -- N of those before the last and one more
-  itself-backup : largestBefore tasks (last + 1) (getD faults i 0) ≡ backupFromFault tasks i
+  pub itself-backup : largestBefore (tasksOf t 0 faults) (t .count - getD faults i 0 + 1) (getD faults i 0) ≡ backupFromFault (tasksOf t interval faults) i
   unfolding largestBefore backupFromFault largestBackup everyone
   itself-backup =
       let fault = chosen i low in
       sym
-      (most-until (λ k. backupOf (recordAt (t .records) k) true (getD faults k 0) (getD faults i 0)) (λ k. backupOf (recordAt (t .records) k) true (getD faults k 0) (getD faults i 0)) (last + 1) (t .count) (omega arith)
+      (most-until (λ k. backupOf (recordAt (t .records) k) true (getD faults k 0) (getD faults i 0)) (λ k. backupOf (recordAt (t .records) k) true (getD faults k 0) (getD faults i 0)) (t .count - getD faults i 0 + 1) (t .count) (omega arith)
       (λ k before. refl) (λ k after below. too-low k (getD faults i 0) (omega (arith, chosen k below .1))))
-
-  -- the demands that stand for the equations
-  abbrev pub demandElsewhere : Demand
-  demandElsewhere = record { base = recordAt (t .records) i .cost; rank = i; until = 0; backup = largestBefore tasks i (priority i); paid = 0 }
-
-  abbrev pub demandItself : Demand
-  demandItself =
-      record {
-        base = recordAt (t .records) i .cost + recordAt (t .records) i .backup + runsOf tasks (i + 1) last 1;
-        rank = i;
-        until = last;
-        backup = largestBefore tasks (last + 1) (getD faults i 0);
-        paid = largestBefore tasks (last + 1) (getD faults i 0);
-      }
-
-  -- the equation of a task struck elsewhere
-  pub elsewhere-tied : (L : ℕ) → demandOf tasks demandElsewhere L ≡ struckElsewhere tasks i L
-  unfolding demandOf loadOf struckElsewhere
-  elsewhere-tied L = omega (arith, above-tied L, no-runs tasks i L, ap (λ (m : ℕ). up L interval * m) elsewhere-backup)
-
-  -- the equation of a task struck itself, from a length of 1 on
-  pub itself-tied : (L : ℕ) → 1 ≤ interval → 1 ≤ L → demandOf tasks demandItself L ≡ struckItself tasks i L
-  unfolding demandOf loadOf struckItself
-  itself-tied L some long =
-      omega (arith, above-tied L, between-tied L, itself-backup, first-paid (up L interval) (largestBefore tasks (last + 1) (getD faults i 0)) (up-some L interval some long), ap (λ (m : ℕ). (up L interval - 1) * m) itself-backup)
-
-  -- which asks its base of every length
-  pub itself-base : (L : ℕ) → recordAt (t .records) i .cost + recordAt (t .records) i .backup + runsOf tasks (i + 1) last 1 ≤ struckItself tasks i L
-  unfolding struckItself
-  itself-base L = omega (arith, between-tied L)

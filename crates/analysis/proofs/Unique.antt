@@ -8,7 +8,9 @@ use Rattle.sheet.proofs.Unique.{both}
 use Rattle.analysis.specs.declared.Timed.{Timed}
 use Rattle.analysis.specs.declared.Assessment.{Assessment}
 use Rattle.analysis.specs.declared.Interval.{Interval}
+use Rattle.analysis.specs.declared.Bounds.{Bounds}
 use Rattle.analysis.specs.Answers.{timedAnswer, choiceRefusal, choiceAssessment, ownAssessment, intervalAnswer}
+use Rattle.analysis.specs.Bounds.{hopeless, boundsOf, withinBounds}
 
 pub response-time-unique : (t : Table) (place : ℕ) (a b : Timed) → a ≡ timedAnswer t place → b ≡ timedAnswer t place → a ≡ b
 response-time-unique t place a b = both
@@ -24,3 +26,12 @@ assess-unique t withTimes a b = both
 
 pub least-interval-unique : (t : Table) (a b : Interval) → a ≡ intervalAnswer t → b ≡ intervalAnswer t → a ≡ b
 least-interval-unique t a b = both
+
+pub is-hopeless-unique : (t : Table) (a b : Bool) → a ≡ hopeless t → b ≡ hopeless t → a ≡ b
+is-hopeless-unique t a b = both
+
+pub bounds-of-unique : (t : Table) (a b : Bounds) → a ≡ boundsOf t → b ≡ boundsOf t → a ≡ b
+bounds-of-unique t a b = both
+
+pub passes-within-unique : (bounds : Bounds) (choice : List ℕ) (a b : Bool) → a ≡ withinBounds bounds choice → b ≡ withinBounds bounds choice → a ≡ b
+passes-within-unique bounds choice a b = both

@@ -1,4 +1,4 @@
--- What a reader of the crate's promises must believe, in the order of document 01; Demand is an inner device that no public promise cites.
+-- What a reader of the crate's promises must believe, in the order of document 01; Demand is an inner device that no public promise cites, and Bounds one that walk and list go by.
 pub mod Rounding
 pub mod Totals
 pub mod Tasks
@@ -9,3 +9,4 @@ pub mod Response
 pub mod Allowed
 pub mod Answers
 pub mod Demand
+pub mod Bounds

@@ -4,10 +4,12 @@ ghost use mathlib.Core.Path.{_≡_};
 ghost use Rattle.analysis.specs.Answers.{timedRefusal, timedAnswer, choiceRefusal, assessmentOf, choiceAssessment, ownAssessment, intervalAnswer};
 ghost use Rattle.analysis.specs.Tasks.{tasksOf};
 ghost use Rattle.analysis.specs.Allowed.{Within};
+ghost use Rattle.analysis.specs.Bounds.{hopeless, boundsOf, withinBounds};
 ghost use Rattle.sheet.specs.Rules.{tableRefusal};
 use sheet::Table;
 
 mod allowed;
+mod bearing;
 mod order;
 mod response;
 mod search;
@@ -67,6 +69,15 @@ pub struct Ordered {
     pub table: Table,
     pub faults: [u8; 8],
     pub places: [usize; 8],
+}
+
+// How large a backup each record of a table bears: the records' priorities and backups in record order, and the limits of each, one more than the largest
+// backup that it bears or 0; for the record at a place as M at 9 times the place, as N under a fault priority q at 9 times the place plus q.
+pub struct Bounds {
+    pub count: u8,
+    pub priorities: [u8; 8],
+    pub backups: [u16; 8],
+    pub limits: [u32; 72],
 }
 
 // The refusal of asking a table for the record at a place: the table's own, then 12.
@@ -156,4 +167,34 @@ pub fn least_interval(table: Table) -> Interval
         return Interval::Nothing;
     }
     Interval::Least(least)
+}
+
+// Whether some record of a good table is late under every choice because of its own backup: one search for each record at most.
+pub fn is_hopeless(table: Table) -> bool
+    ensures { λ r. ⌜ r ≡ hopeless table ⌝ }
+{
+    if sheet::judge_table(table) != 0 {
+        return false;
+    }
+    bearing::some_missed(table)
+}
+
+// How large a backup each record bears, found by at most ten searches for each record and each fault priority that it can have, and for M.
+pub fn bounds_of(table: Table) -> Bounds
+    ensures { λ r. ⌜ r ≡ boundsOf table ⌝ }
+{
+    if sheet::judge_table(table) != 0 {
+        return bearing::none();
+    }
+    bearing::found(table)
+}
+
+// Whether a choice stays within bounds: for those of a good table and a choice that it has, whether it passes.
+pub fn passes_within(bounds: Bounds, choice: [u8; 8]) -> bool
+    ensures { λ r. ⌜ r ≡ withinBounds bounds choice ⌝ }
+{
+    if 8 < bounds.count {
+        return false;
+    }
+    bearing::within(bounds, choice)
 }

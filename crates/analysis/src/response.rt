@@ -2,11 +2,14 @@
 // held from the highest priority to the lowest and answered in record order. Fault priorities come from a choice beside the table. Each time is searched for up to a limit: 65,535 for a figure, the deadline for the verdict.
 ghost use mathlib.Core.Path.{_≡_};
 ghost use mathlib.Core.Bool.{true};
-ghost use Prim.Native.Nat.{_≤_, _<_};
+ghost use Prim.Native.Nat.{_+_, _≤_, _<_};
+ghost use mathlib.Core.List.{[]};
 ghost use Rattle.sheet.specs.Rules.{tableRefusal};
 ghost use Rattle.analysis.specs.Tasks.{tasksOf, faultAt, ownChoice};
 ghost use Rattle.analysis.specs.Allowed.{Within};
 ghost use Rattle.analysis.specs.Demand.{Sorted, Chosen};
+ghost use Rattle.analysis.specs.Search.{leastWithin};
+ghost use Rattle.analysis.specs.Bounds.{askedElsewhere, askedItself};
 ghost use Rattle.analysis.specs.Response.{timeElsewhere, timeItself, responseWithin, late, passes};
 ghost use Rattle.analysis.specs.Answers.{outcomeOf, saysLate, slackOf, entryOf, noEntry, untimed, assessmentOf, leastInterval};
 use crate::Assessment;
@@ -22,11 +25,10 @@ use sheet::Table;
 // The longest response time that is searched for.
 const LONGEST: u16 = 65535;
 
-// The time of the record at a rank when faults strike other tasks only, or 0. No length below the base is enough, so the climb starts there.
-// A backup at or above its priority is that of a record before it.
-fn elsewhere(table: Table, interval: u16, faults: [u8; 8], rank: usize, limit: u64) -> u64
-    requires { ⌜ (Sorted table) × (Chosen table faults) × (1 ≤ interval) × (rank < table .count) × (limit < 65536) ⌝ }
-    ensures { λ r. ⌜ (r ≡ timeElsewhere limit (tasksOf table interval faults) rank) × (r < 65536) ⌝ }
+// The time of the record at a rank when faults strike other tasks only, with a largest backup, or 0. No length below the base is enough, so the climb starts there.
+pub fn elsewhere_with(table: Table, interval: u16, rank: usize, backup: u16, limit: u64) -> u64
+    requires { ⌜ (Sorted table) × (1 ≤ interval) × (rank < table .count) × (limit < 65536) ⌝ }
+    ensures { λ r. ⌜ (r ≡ leastWithin (askedElsewhere (tasksOf table interval []) rank backup) 1 limit) × (r < 65536) ⌝ }
 {
     let task = table.records[rank];
     let base = workload::wide(task.cost);
@@ -34,22 +36,27 @@ fn elsewhere(table: Table, interval: u16, faults: [u8; 8], rank: usize, limit: u
         base,
         rank,
         until: 0,
-        backup: workload::largest(table, faults, rank, task.priority),
+        backup,
         paid: 0,
     };
     search::climb(table, interval, sought, base, limit)
 }
 
-// The time of the record at a rank when the first fault strikes it, or 0, likewise. The records above its fault priority are those before the last,
-// and each of them that stands after it runs once more.
-fn itself(table: Table, interval: u16, faults: [u8; 8], rank: usize, limit: u64) -> u64
-    requires { ⌜ (Sorted table) × (Chosen table faults) × (1 ≤ interval) × (rank < table .count) × (limit < 65536) ⌝ }
-    ensures { λ r. ⌜ (r ≡ timeItself limit (tasksOf table interval faults) rank) × (r < 65536) ⌝ }
+// The time of the record at a rank when the first fault strikes it, under a fault priority and with a largest backup, or 0, likewise. The records above its
+// fault priority are those before the last, and each of them that stands after it runs once more.
+pub fn itself_with(
+    table: Table,
+    interval: u16,
+    rank: usize,
+    fault: u8,
+    backup: u16,
+    limit: u64,
+) -> u64
+    requires { ⌜ (Sorted table) × (1 ≤ interval) × (rank < table .count) × (fault + rank ≤ table .count) × (limit < 65536) ⌝ }
+    ensures { λ r. ⌜ (r ≡ leastWithin (askedItself (tasksOf table interval []) rank fault backup) 1 limit) × (r < 65536) ⌝ }
 {
     let task = table.records[rank];
-    let fault = faults[rank];
     let until = (table.count - fault) as usize;
-    let backup = workload::largest(table, faults, until + 1, fault);
     let once = workload::runs(table, rank + 1, until, 1);
     let base = workload::wide(task.cost) + workload::wide(task.backup) + once;
     let sought = Demand {
@@ -60,6 +67,27 @@ fn itself(table: Table, interval: u16, faults: [u8; 8], rank: usize, limit: u64)
         paid: workload::wide(backup),
     };
     search::climb(table, interval, sought, base, limit)
+}
+
+// The time of the record at a rank when faults strike other tasks only, or 0. A backup at or above its priority is that of a record before it.
+fn elsewhere(table: Table, interval: u16, faults: [u8; 8], rank: usize, limit: u64) -> u64
+    requires { ⌜ (Sorted table) × (Chosen table faults) × (1 ≤ interval) × (rank < table .count) × (limit < 65536) ⌝ }
+    ensures { λ r. ⌜ (r ≡ timeElsewhere limit (tasksOf table interval faults) rank) × (r < 65536) ⌝ }
+{
+    let level = table.records[rank].priority;
+    let backup = workload::largest(table, faults, rank, level);
+    elsewhere_with(table, interval, rank, backup, limit)
+}
+
+// The time of the record at a rank when the first fault strikes it, or 0. A backup at or above its fault priority is that of a record before the last, or the last.
+fn itself(table: Table, interval: u16, faults: [u8; 8], rank: usize, limit: u64) -> u64
+    requires { ⌜ (Sorted table) × (Chosen table faults) × (1 ≤ interval) × (rank < table .count) × (limit < 65536) ⌝ }
+    ensures { λ r. ⌜ (r ≡ timeItself limit (tasksOf table interval faults) rank) × (r < 65536) ⌝ }
+{
+    let fault = faults[rank];
+    let until = (table.count - fault) as usize;
+    let backup = workload::largest(table, faults, until + 1, fault);
+    itself_with(table, interval, rank, fault, backup, limit)
 }
 
 // The response time of the record at a rank, or 0 where it is late.
@@ -246,21 +274,26 @@ pub fn passes(table: Table, choice: [u8; 8]) -> bool
     passes_in_order(held.table, table.interval, faults)
 }
 
-// The least interval at which a good table passes, or 0. None passes at 1, so the search begins at 2.
+// The least interval at which a good table passes, or 0. None passes at 1, and what passes at one interval passes at a larger one; so what lies between an
+// interval that fails and one that passes, 65,536 standing for none, is halved until nothing lies between: sixteen verdicts.
 pub fn least(table: Table) -> u16
     requires { ⌜ tableRefusal table ≡ 0 ⌝ }
     ensures { λ r. ⌜ r ≡ leastInterval table ⌝ }
 {
     let held = order::ordered(table, own_choice(table));
     let faults = held.faults;
-    let mut interval: u16 = 2;
-    loop {
-        if passes_in_order(held.table, interval, faults) {
-            return interval;
+    let mut fails: u32 = 1;
+    let mut passes: u32 = 65536;
+    while fails + 1 < passes {
+        let middle = (fails + passes) / 2;
+        if passes_in_order(held.table, middle as u16, faults) {
+            passes = middle;
+        } else {
+            fails = middle;
         }
-        if interval == 65535 {
-            return 0;
-        }
-        interval += 1;
     }
+    if passes == 65536 {
+        return 0;
+    }
+    passes as u16
 }

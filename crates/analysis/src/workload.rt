@@ -21,7 +21,7 @@ pub fn wide(x: u16) -> u64
 }
 
 // The same as one of 32: what is divided and multiplied stays within 32 bits, where a division is cheaper.
-fn half_wide(x: u16) -> u32
+pub fn half_wide(x: u16) -> u32
     ensures { λ r. ⌜ (r ≡ x) × (r < 65536) ⌝ }
 {
     x as u32

@@ -19,11 +19,14 @@ use Rattle.analysis.specs.Tasks.{tasksOf}
 use Rattle.analysis.specs.Response.{passes}
 use Rattle.analysis.specs.Answers.{choiceRefusal, assessmentOf, choiceAssessment}
 use Rattle.analysis.specs.Allowed.{levelsOf, allAllowed}
-use Rattle.analysis.proofs.Choice.{length-levels, level-at}
+use Rattle.analysis.specs.declared.Bounds.{Bounds}
+use Rattle.analysis.specs.Bounds.{withinBounds}
+use Rattle.analysis.proofs.Choice.{allowed-exactly, allowed-length, length-levels, level-at}
+use Rattle.analysis.proofs.Borne.{within-passes}
 use Rattle.choices.specs.Choices.{choicesOf, sift, passingOf}
 use Rattle.choices.specs.Order.{allZero, afterOf}
 use Rattle.choices.specs.Answers.{walkRefusal}
-use Rattle.choices.specs.Stepping.{nextOf}
+use Rattle.choices.specs.Stepping.{Knows, nextOf}
 use Rattle.choices.proofs.Sifted.{sift-keeps, sift-drops, sift-sift-commute}
 use Rattle.choices.proofs.Onward.{onward, after-next, next-allowed}
 
@@ -113,3 +116,9 @@ module _ (t : Table) (good : tableRefusal t ≡ 0) where
   pub verdict-passes : (choice : List ℕ) → allAllowed (levelsOf t) choice ≡ true → choiceAssessment t choice false .passes ≡ passesWith t choice
   unfolding choiceAssessment assessmentOf choiceRefusal
   verdict-passes choice allowed = simp (good, allowed, next-of 0 refl)
+
+  -- and where its bounds are known, staying within them
+  pub known-passes : (choice : List ℕ) → allAllowed (levelsOf t) choice ≡ true → (bounds : Bounds) → Knows t bounds → (bounds .count ≡ 0 → ⊥) → withinBounds bounds choice ≡ passesWith t choice
+  known-passes choice allowed bounds knows some =
+      ap (λ (b : Bounds). withinBounds b choice) (knows some)
+      ∙ within-passes t good choice (allowed-exactly t good choice (allowed-length (levelsOf t) choice allowed ∙ length-levels t) .0 allowed .each)

@@ -1,7 +1,7 @@
 -- Places with n different priorities from 1 to n have n! choices: the product of the priorities counts them.
 -- Assumes nothing.
-use Prim.Native.Nat.{ℕ, zero, suc, _+_, _*_, _≤_, _<_, suc-le-suc}
-use mathlib.Core.Path.{_≡_, refl, sym, ap, ap₂, _∙_}
+use Prim.Native.Nat.{ℕ, zero, suc, _+_, _-_, _*_, _≤_, _<_, suc-le-suc}
+use mathlib.Core.Path.{_≡_, refl, sym, ap, ap₂, subst, _∙_}
 use mathlib.Core.Bool.{Bool, true, false, cond, or-false}
 use mathlib.Core.List.{List, [], _∷_}
 use native.Mathlib.Nat.{zero-add, suc-add, le-refl, le-trans, not-suc-le-zero, le-of-eq, mul-left-comm, zero-mul, one-mul, suc-mul, add-comm}
@@ -14,17 +14,20 @@ use Rattle.sheet.specs.Places.{someBelow, filledBelow}
 use Rattle.sheet.proofs.Turns.{length-filled}
 use Rattle.analysis.proofs.Choice.{filled-past}
 use Rattle.choices.specs.Choices.{inRow, entriesFor, spread, choicesOf}
+use Rattle.choices.specs.Stepping.{factorial}
 
--- n!
-unfoldable pub factorial : ℕ → ℕ
-factorial zero = 1
-factorial (suc n) = suc n * factorial n
-
--- it rises with n
-pub factorial-rises : (d n : ℕ) → factorial n ≤ factorial (d + n)
+-- n! rises with n
+factorial-rises : (d n : ℕ) → factorial n ≤ factorial (d + n)
 unfolding factorial
 factorial-rises zero n = rw zero-add (le-refl (factorial n))
 factorial-rises (suc d) n = rw suc-add (le-trans (factorial-rises d n) (omega (arith, suc-mul (d + n) (factorial (d + n)))))
+
+-- so that of up to eight is at most that of eight
+pub factorial-few : (n : ℕ) → n ≤ 8 → factorial n ≤ 40320
+unfolding factorial
+factorial-few n few =
+    let eight : 8 - n + n ≡ 8 = omega arith in
+    subst (λ (m : ℕ). factorial n ≤ factorial m) eight (factorial-rises (8 - n) n)
 
 -- no number at a place below n is that of an earlier place
 abbrev Fresh : (ℕ → ℕ) → ℕ → Type 0

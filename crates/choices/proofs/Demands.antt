@@ -31,7 +31,8 @@ use Rattle.choices.specs.Lowest.{Lowest, lowestLate}
 use Rattle.choices.proofs.Sifted.{sift-none, sift-fewer}
 use Rattle.choices.proofs.Members.{sift-members, choices-sound, choices-complete}
 use Rattle.choices.proofs.Advancing.{passesWith, starts, good-start}
-use Rattle.choices.proofs.Counted.{factorial, factorial-rises, filled-factorial}
+use Rattle.choices.specs.Stepping.{factorial}
+use Rattle.choices.proofs.Counted.{filled-factorial}
 use Rattle.choices.proofs.Ordered.{before-irreflexive, before-asymmetric, ascending-places}
 use Rattle.choices.proofs.Listed.{from-start, passing-ascending, passing-eight, start-allowed, next-listed, list-empty}
 use Rattle.choices.proofs.LowestTask.{lowest-late-same, lowest-tested, tested-none}
@@ -112,14 +113,10 @@ choices-count t good =
     let each = good-at (t .count) (recordAt (t .records)) (table .records) in
     filled-factorial (λ k. recordAt (t .records) k .priority) (t .count) (table .count .1) (λ k h. each k h .priority) (λ k h. each k h .fresh)
 
--- so no list is longer than the choices of eight records
-pub listed-few : (t : Table) → tableRefusal t ≡ 0 → length (passingOf t) ≤ 40320
-unfolding passingOf factorial
-listed-few t good =
-    let few = good-table t good .count .1 in
-    let rises = factorial-rises (8 - t .count) (t .count) in
-    let eight : 8 - t .count + t .count ≡ 8 = omega arith in
-    omega (arith, sift-fewer (passesWith t) (choicesOf (levelsOf t)), choices-count t good, subst (λ (n : ℕ). factorial (t .count) ≤ factorial n) eight rises)
+-- so no list is longer than that
+pub listed-few : (t : Table) → tableRefusal t ≡ 0 → length (passingOf t) ≤ factorial (t .count)
+unfolding passingOf
+listed-few t good = omega (arith, sift-fewer (passesWith t) (choicesOf (levelsOf t)), choices-count t good)
 
 -- c is the first listed choice after a start: it is listed, comes after the start, and every other listed one after the start comes after it
 pub record FirstAfter (t : Table) (start c : List ℕ) : Type 0 where

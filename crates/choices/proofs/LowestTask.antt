@@ -20,9 +20,11 @@ use Rattle.analysis.specs.Allowed.{levelsOf, allAllowed}
 use Rattle.analysis.specs.declared.Timed.{Timed}
 use Rattle.analysis.specs.Answers.{ownTasks, saysLate, timedAnswer}
 use Rattle.analysis.proofs.Verdicts.{some-found, none-below}
-use Rattle.analysis.proofs.Choice.{Allowed, and-true, allowed-exactly, allowed-length, length-levels, own-allowed}
+use Rattle.analysis.proofs.Choice.{Allowed, and-true, both-true, allowed-exactly, allowed-length, length-levels, own-allowed}
 use Rattle.analysis.proofs.Refused.{timed-given}
 use Rattle.analysis.proofs.Lowest.{response-lowest}
+use Rattle.analysis.specs.Bounds.{ownMissed, hopeless}
+use Rattle.analysis.proofs.Borne.{hopeless-fails}
 use Rattle.choices.specs.Choices.{choicesOf, passingOf}
 use Rattle.choices.specs.Lowest.{Lowest, lowestLate}
 use Rattle.choices.proofs.Sifted.{sift-none}
@@ -92,3 +94,14 @@ module _ (t : Table) (good : tableRefusal t ≡ 0) where
           let at = lowest-there in
           let late-too = lowest-late-same t (at .0) (at .1) choice (ownChoice t) allowed (own-allowed t good) ∙ sym (lowest-tested (at .0) (at .1)) ∙ is in
           ap not (some-found (late (tasksOf t (t .interval) choice)) (at .0) (t .count) (at .1 .0) late-too)
+
+  -- nor where some record misses its own backup
+  pub hopeless-none : hopeless t ≡ true → passingOf t ≡ []
+  unfolding passingOf hopeless
+  hopeless-none is = sift-none (passesWith t) (choicesOf (levelsOf t)) (λ choice member. fails choice (choices-sound (levelsOf t) member))
+    where
+      some : someBelow (ownMissed (tasksOf t (t .interval) [])) (t .count) ≡ true
+      some = both-true (eqb (tableRefusal t) 0) _ is .1
+
+      fails : (choice : List ℕ) → allAllowed (levelsOf t) choice ≡ true → passesWith t choice ≡ false
+      fails choice sound = hopeless-fails t good choice (allowed-exactly t good choice (allowed-length (levelsOf t) choice sound ∙ length-levels t) .0 sound .each) some

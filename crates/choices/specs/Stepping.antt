@@ -1,11 +1,24 @@
--- What the code steps with: the choice right after another, and a choice found. An inner device, tied to the lists by laws; no public promise cites it.
-use Prim.Native.Nat.{ℕ, suc, _<_}
+-- What the code steps with: the bounds that it knows, the choice right after another, and a choice found. An inner device, tied to the lists by laws; no public promise cites it.
+use Prim.Native.Nat.{ℕ, zero, suc, _*_, _<_}
+use mathlib.Core.Path.{_≡_}
 use mathlib.Core.Bool.{Bool, true, false, cond}
 use mathlib.Core.List.{List, [], _∷_, map}
 use lib.Dec.{eqb, ltb}
 use lib.ListN.{getD}
+use Rattle.sheet.specs.declared.Table.{Table}
+use Rattle.analysis.specs.declared.Bounds.{Bounds}
+use Rattle.analysis.specs.Bounds.{boundsOf}
 use Rattle.choices.specs.declared.Found.{Found}
 use Rattle.choices.specs.Order.{allZero}
+
+-- bounds that are a table's, or none, whose count is 0
+abbrev pub Knows : Table → Bounds → Type 0
+Knows t bounds = (bounds .count ≡ 0 → ⊥) → bounds ≡ boundsOf t
+
+-- n!, which is how many choices n records have
+unfoldable pub factorial : ℕ → ℕ
+factorial zero = 1
+factorial (suc n) = suc n * factorial n
 
 -- the first entry allowed at a place
 unfoldable pub firstFor : ℕ → ℕ

@@ -63,7 +63,7 @@ impl Walk {
                 arrival: Arrival::End,
             };
         }
-        let found = odometer::advance(table, entries);
+        let found = odometer::advance(table, odometer::no_bounds(), entries);
         if found.is_there {
             let choice = found.choice;
             return Stepped {
@@ -89,14 +89,15 @@ pub fn list(table: Table, out: &mut [u8]) -> Listing
             entries: 0,
         };
     }
-    if lowest::is_late(table) {
+    if lowest::none_passes(table) {
         return Listing {
             refusal: 0,
             entries: 0,
         };
     }
-    if lister::fits(table, out.len() / 4) {
-        let entries = lister::fill(table, out);
+    let bounds = analysis::bounds_of(table);
+    if lister::fits(table, bounds, out.len() / 4) {
+        let entries = lister::fill(table, bounds, out);
         return Listing {
             refusal: 0,
             entries,

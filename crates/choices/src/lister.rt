@@ -8,25 +8,38 @@ ghost use lib.Seq.{sets};
 ghost use Rattle.sheet.specs.Rules.{tableRefusal};
 ghost use Rattle.choices.specs.Choices.{passingOf};
 ghost use Rattle.choices.specs.Answers.{entryBytes, bytesOf};
-ghost use Rattle.choices.specs.Stepping.{small};
+ghost use Rattle.choices.specs.Stepping.{Knows, factorial, small};
 use crate::odometer;
+use analysis::Bounds;
 use sheet::Table;
 
-// How many choices eight records have: no list is longer.
-const CHOICES: usize = 40320;
+// How many choices so many records have: no list is longer.
+fn most(count: u8) -> usize
+    requires { ⌜ count ≤ 8 ⌝ }
+    ensures { λ r. ⌜ r ≡ factorial count ⌝ }
+{
+    let all = count as usize;
+    let mut choices: usize = 1;
+    let mut records: usize = 0;
+    while records < all {
+        records += 1;
+        choices = choices * records;
+    }
+    choices
+}
 
 // Whether there are no more passing choices than the room has entries.
-pub fn fits(table: Table, room: usize) -> bool
-    requires { ⌜ tableRefusal table ≡ 0 ⌝ }
+pub fn fits(table: Table, bounds: Bounds, room: usize) -> bool
+    requires { ⌜ (tableRefusal table ≡ 0) × (Knows table bounds) ⌝ }
     ensures { λ r. ⌜ r ≡ leb (length (passingOf table)) room ⌝ }
 {
-    if CHOICES <= room {
+    if most(table.count) <= room {
         return true;
     }
     let mut walk = [0u8; 8];
     let mut left = room;
     loop {
-        let found = odometer::advance(table, walk);
+        let found = odometer::advance(table, bounds, walk);
         if found.is_there {
             if left == 0 {
                 return false;
@@ -52,14 +65,14 @@ fn put_entry(out: &mut [u8], at: usize, choice: [u8; 8])
 }
 
 // Puts every passing choice, and counts them.
-pub fn fill(table: Table, out: &mut [u8]) -> usize
-    requires { ⌜ (tableRefusal table ≡ 0) × (4 * length (passingOf table) ≤ length (now out)) ⌝ }
+pub fn fill(table: Table, bounds: Bounds, out: &mut [u8]) -> usize
+    requires { ⌜ (tableRefusal table ≡ 0) × (Knows table bounds) × (4 * length (passingOf table) ≤ length (now out)) ⌝ }
     ensures { λ r. ⌜ (r ≡ length (passingOf table)) × (now (out .exit) ≡ bytesOf (passingOf table) ++ drop (4 * length (passingOf table)) (now (out .entry))) ⌝ }
 {
     let mut walk = [0u8; 8];
     let mut entries: usize = 0;
     loop {
-        let found = odometer::advance(table, walk);
+        let found = odometer::advance(table, bounds, walk);
         if found.is_there {
             let choice = found.choice;
             put_entry(out, 4 * entries, choice);

@@ -1,9 +1,16 @@
 // The lowest task: where it stands, and whether it is late. Its response is the same under every choice, so that one response decides for all of them.
+// Beside it, what a few searches tell of all choices together.
 ghost use mathlib.Core.Path.{_≡_};
+ghost use mathlib.Core.Bool.{true};
+ghost use mathlib.Core.List.{[]};
 ghost use Rattle.sheet.specs.Rules.{tableRefusal};
+ghost use Rattle.choices.specs.Choices.{passingOf};
 ghost use Rattle.choices.specs.Lowest.{Lowest, lowestLate};
 use analysis::Outcome;
 use sheet::Table;
+
+// A table of so few records has 24 choices at most, and its own backups are not asked about first.
+const FEW_RECORDS: u8 = 4;
 
 // The place of the record with priority 1, which every good table has.
 fn place_of(table: Table) -> usize
@@ -31,4 +38,18 @@ pub fn is_late(table: Table) -> bool
         Outcome::OnTime(_) => false,
         Outcome::Late => true,
     }
+}
+
+// Whether the lowest task, or some record's own backup, tells that no choice passes.
+pub fn none_passes(table: Table) -> bool
+    requires { ⌜ tableRefusal table ≡ 0 ⌝ }
+    ensures { λ r. ⌜ (r ≡ true → passingOf table ≡ []) ⌝ }
+{
+    if is_late(table) {
+        return true;
+    }
+    if table.count <= FEW_RECORDS {
+        return false;
+    }
+    analysis::is_hopeless(table)
 }

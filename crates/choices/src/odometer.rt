@@ -2,14 +2,21 @@
 ghost use mathlib.Core.Path.{_≡_};
 ghost use mathlib.Core.Bool.{true};
 ghost use Prim.Native.Nat.{_≤_};
-ghost use mathlib.Core.List.{map};
-ghost use Rattle.analysis.specs.Allowed.{levelsOf};
+ghost use mathlib.Core.List.{[], map};
+ghost use Rattle.sheet.specs.Rules.{tableRefusal};
+ghost use Rattle.analysis.specs.Tasks.{tasksOf};
+ghost use Rattle.analysis.specs.Response.{passes};
+ghost use Rattle.analysis.specs.Allowed.{levelsOf, allAllowed};
 ghost use Rattle.choices.specs.Choices.{passingOf};
 ghost use Rattle.choices.specs.Order.{allZero, afterOf};
 ghost use Rattle.choices.specs.Answers.{walkRefusal};
-ghost use Rattle.choices.specs.Stepping.{firstFor, foundIn, nextOf};
+ghost use Rattle.choices.specs.Stepping.{Knows, firstFor, foundIn, nextOf};
 use crate::Found;
+use analysis::Bounds;
 use sheet::Table;
+
+// How many choices are looked at by climbing before bounds are found.
+const FEW: u8 = 8;
 
 // The priorities of a table's records, 0 past the count.
 fn levels_of(table: Table) -> [u8; 8]
@@ -101,24 +108,89 @@ fn next(levels: [u8; 8], choice: [u8; 8]) -> Found
     }
 }
 
-// The first passing choice after a start.
-pub fn advance(table: Table, start: [u8; 8]) -> Found
-    requires { ⌜ walkRefusal table start ≡ 0 ⌝ }
+// No bounds.
+pub fn no_bounds() -> Bounds
+    ensures { λ r. ⌜ r .count ≡ 0 ⌝ }
+{
+    Bounds {
+        count: 0,
+        priorities: [0u8; 8],
+        backups: [0u16; 8],
+        limits: [0u32; 72],
+    }
+}
+
+// Whether a choice passes: by the bounds where they are known, else by climbing.
+fn passes(table: Table, bounds: Bounds, choice: [u8; 8]) -> bool
+    requires { ⌜ (tableRefusal table ≡ 0) × (Knows table bounds) × (allAllowed (levelsOf table) choice ≡ true) ⌝ }
+    ensures { λ r. ⌜ r ≡ passes (tasksOf table (table .interval) choice) ⌝ }
+{
+    if bounds.count != 0 {
+        return analysis::passes_within(bounds, choice);
+    }
+    analysis::assess_choice(table, choice, false).passes
+}
+
+// One less, down to 0.
+fn one_less(left: u8) -> u8 {
+    if left == 0 { 0 } else { left - 1 }
+}
+
+// Whether no choice passes because of some record's own backup, asked where no bounds are known and no choice is left that is to be looked at without.
+fn ends(table: Table, bounds: Bounds, left: u8) -> bool
+    requires { ⌜ tableRefusal table ≡ 0 ⌝ }
+    ensures { λ r. ⌜ (r ≡ true → passingOf table ≡ []) ⌝ }
+{
+    if left == 0 {
+        if bounds.count == 0 {
+            return analysis::is_hopeless(table);
+        }
+    }
+    false
+}
+
+// The bounds as they are known, or found where none are and no choice is left that is to be looked at without.
+fn sought(table: Table, bounds: Bounds, left: u8) -> Bounds
+    requires { ⌜ Knows table bounds ⌝ }
+    ensures { λ r. ⌜ Knows table r ⌝ }
+{
+    if left == 0 {
+        if bounds.count == 0 {
+            return analysis::bounds_of(table);
+        }
+    }
+    bounds
+}
+
+// The first passing choice after a start. Where no bounds are known a few choices are looked at by climbing first, so that one found at once does not pay for bounds.
+pub fn advance(table: Table, bounds: Bounds, start: [u8; 8]) -> Found
+    requires { ⌜ (walkRefusal table start ≡ 0) × (Knows table bounds) ⌝ }
     ensures { λ r. ⌜ r ≡ foundIn start (afterOf start (passingOf table)) ⌝ }
 {
     let levels = levels_of(table);
+    let mut known = bounds;
+    let mut left: u8 = FEW;
     let mut choice = start;
     loop {
         let found = next(levels, choice);
         if found.is_there {
             let later = found.choice;
             choice = later;
-            if analysis::assess_choice(table, choice, false).passes {
+            if passes(table, known, choice) {
                 return Found {
                     is_there: true,
                     choice,
                 };
             }
+            left = one_less(left);
+            if ends(table, known, left) {
+                return Found {
+                    is_there: false,
+                    choice: start,
+                };
+            }
+            let better = sought(table, known, left);
+            known = better;
         } else {
             return Found {
                 is_there: false,

@@ -1,5 +1,5 @@
--- `analysis::response::least` meets its contract: at no smaller interval does the table pass, 1 among them by the law. Assumes nothing.
-use Prim.Native.Nat.{ℕ, _+_, _-_, _≤_}
+-- `analysis::response::least` meets its contract: the table fails up to one bound and passes at the other, which stand closer after each turn. Assumes nothing.
+use Prim.Native.Nat.{ℕ, _+_, _-_, _/_}
 use mathlib.Core.Path.{_≡_, sym, ap, subst, _∙_, fun-ext}
 use mathlib.Core.Bool.{Bool}
 use mathlib.Core.List.{List}
@@ -13,10 +13,10 @@ use Rattle.analysis.specs.Response.{passes}
 use Rattle.analysis.specs.Answers.{leastInterval}
 use Rattle.analysis.specs.Allowed.{Within}
 use Rattle.analysis.specs.Demand.{HeldInOrder}
-use Rattle.analysis.proofs.Climbing.{Fails, fails-more, first-found, first-none}
 use Rattle.analysis.proofs.Choice.{own-allowed}
 use Rattle.analysis.proofs.Placing.{sorted, chosen, passes-there}
 use Rattle.analysis.proofs.Demands.{fails-at-1}
+use Rattle.analysis.proofs.Halving.{passing-kept, Between, half-holds, half-fails, halved-found, halved-none}
 use borrow.Author.Needs.{needs}
 use Rattle.analysis.proofs.response.least.Statement.{statement}
 use Rattle.analysis.proofs.response.least.Tie as tie
@@ -32,10 +32,10 @@ first-there t choice held order good own =
     ap (λ (test : ℕ → Bool). firstFrom test 1 65535) (fun-ext (passes-there t choice held order good)) ∙ ap (λ (c : List ℕ). firstFrom (passing t c) 1 65535) own
 
 abbrev Inv-loop : tie.InvT-loop
-Inv-loop held faults interval₀ interval = (1 ≤ interval) × (interval ≤ 65535) × Fails (passing (held .table) faults) 1 interval
+Inv-loop held faults fails₀ passes₀ fails passes = Between (passing (held .table) faults) 65536 fails passes
 
 abbrev μ-loop : tie.MeasureT-loop
-μ-loop held faults interval₀ interval = 65535 - interval
+μ-loop held faults fails₀ passes₀ fails passes = passes - fails
 
 own-choice-requires : tie.Need-own-choice-requires Inv-loop μ-loop
 own-choice-requires c κs = search needs
@@ -48,19 +48,49 @@ loop-holds c =
     let order = c .before .ordered in
     let given = c .before .before .before in
     let own = c .before .before .own-choice in
-    let begun = passes-there (given .args .table) (own .result) (order .result) (order .ensures) (given .pre) 1 ∙ fails-at-1 (given .args .table) (given .pre) (own .result) in (
-      search needs,
-      search needs,
-      λ k low high. let only : k ≡ 1 = omega arith in ap (passing (order .result .table) (order .result .faults)) only ∙ begun,
-    )
+    let begun = passes-there (given .args .table) (own .result) (order .result) (order .ensures) (given .pre) 1 ∙ fails-at-1 (given .args .table) (given .pre) (own .result) in
+    record {
+      apart = (search needs, search needs, search needs);
+      below = λ k low high. let only : k ≡ 1 = omega arith in ap (passing (order .result .table) (order .result .faults)) only ∙ begun;
+      above = λ low. absurd (omega arith);
+    }
+
+add-loop : tie.Need-add-loop Inv-loop μ-loop
+add-loop c = omega (arith, c .loop .inv .apart)
+
+add-middle : tie.Need-add-middle Inv-loop μ-loop
+add-middle c = omega (arith, c .before .loop .inv .apart)
+
+cast-passes-in-order : tie.Need-cast-passes-in-order Inv-loop μ-loop
+cast-passes-in-order c = omega (arith, c .before .loop .inv .apart)
 
 passes-in-order-requires : tie.Need-passes-in-order-requires Inv-loop μ-loop
 passes-in-order-requires c κs =
-    let order = c .before .before .ordered .ensures in
-    let own = c .before .before .before .own-choice .ensures in
-    let good = c .before .before .before .before .pre in
-    let table = c .before .before .before .before .args .table in
-    (sorted _ _ _ order good, chosen _ _ _ order good (subst (Within table) (sym own) (own-allowed table good .each)), c .loop .inv .0)
+    let order = c .before .before .before .ordered .ensures in
+    let own = c .before .before .before .before .own-choice .ensures in
+    let given = c .before .before .before .before .before in
+    let table = given .args .table in
+    (sorted _ _ _ order (given .pre), chosen _ _ _ order (given .pre) (subst (Within table) (sym own) (own-allowed table (given .pre) .each)), omega (arith, c .before .loop .inv .apart))
+
+loop-less : tie.Need-loop-less Inv-loop μ-loop
+loop-less c = omega (arith, c .before .before .before .loop .inv .apart)
+
+loop-again : tie.Need-loop-again Inv-loop μ-loop
+loop-again c =
+    let at = c .before .before .before .loop in
+    let held = c .before .before .before .before .before .ordered .result in
+    half-holds (passing (held .table) (held .faults)) (passing-kept (held .table) (held .faults)) 65536 (at .fails) (at .passes) (at .inv) ((at .fails + at .passes) / 2)
+    (omega arith) (omega arith) (sym (c .before .passes-in-order .ensures) ∙ c .if1 .taken)
+
+loop-less-2 : tie.Need-loop-less-2 Inv-loop μ-loop
+loop-less-2 c = omega (arith, c .before .before .before .loop .inv .apart)
+
+loop-again-2 : tie.Need-loop-again-2 Inv-loop μ-loop
+loop-again-2 c =
+    let at = c .before .before .before .loop in
+    let held = c .before .before .before .before .before .ordered .result in
+    half-fails (passing (held .table) (held .faults)) (passing-kept (held .table) (held .faults)) 65536 (at .fails) (at .passes) (at .inv) ((at .fails + at .passes) / 2)
+    (omega arith) (omega arith) (sym (c .before .passes-in-order .ensures) ∙ c .if1 .left)
 
 returns : tie.Need-returns Inv-loop μ-loop
 returns c =
@@ -68,32 +98,20 @@ returns c =
     let order = c .before .before .before .before .ordered in
     let own = c .before .before .before .before .before .own-choice in
     let given = c .before .before .before .before .before .before in
-    let held = order .result in
-    sym (first-found (passing (held .table) (held .faults)) 65535 1 (at .interval) (at .inv .0) (omega arith) (at .inv .2) (sym (c .before .passes-in-order .ensures) ∙ c .if1 .taken))
-    ∙ first-there (given .args .table) (own .result) held (order .ensures) (given .pre) (own .ensures)
+    sym (halved-none (passing (order .result .table) (order .result .faults)) 65535 (at .fails) (at .passes) (at .inv) (omega arith) (omega arith))
+    ∙ first-there (given .args .table) (own .result) (order .result) (order .ensures) (given .pre) (own .ensures)
+
+cast-result : tie.Need-cast-result Inv-loop μ-loop
+cast-result c = omega (arith, c .before .before .loop .inv .apart)
 
 returns-2 : tie.Need-returns-2 Inv-loop μ-loop
 returns-2 c =
-    let at = c .before .before .before .loop in
-    let order = c .before .before .before .before .before .ordered in
-    let own = c .before .before .before .before .before .before .own-choice in
-    let given = c .before .before .before .before .before .before .before in
-    let each = passing (order .result .table) (order .result .faults) in
-    let all : at .interval + 1 ≡ 1 + 65535 = omega arith in
-    sym (first-none each 65535 1 (subst (Fails each 1) all (fails-more each 1 (at .interval) (at .inv .2) (sym (c .before .before .passes-in-order .ensures) ∙ c .before .if1 .left))))
+    let at = c .before .before .loop in
+    let order = c .before .before .before .before .ordered in
+    let own = c .before .before .before .before .before .own-choice in
+    let given = c .before .before .before .before .before .before in
+    sym (halved-found (passing (order .result .table) (order .result .faults)) 65535 (at .fails) (at .passes) (at .inv) (omega arith) (omega (arith, at .inv .apart)))
     ∙ first-there (given .args .table) (own .result) (order .result) (order .ensures) (given .pre) (own .ensures)
-
-add-interval : tie.Need-add-interval Inv-loop μ-loop
-add-interval c = search needs
-
-loop-less : tie.Need-loop-less Inv-loop μ-loop
-loop-less c = search needs
-
-loop-again : tie.Need-loop-again Inv-loop μ-loop
-loop-again c =
-    let at = c .before .before .before .loop in
-    let held = c .before .before .before .before .before .ordered .result in
-    (search needs, omega arith, fails-more (passing (held .table) (held .faults)) 1 (at .interval) (at .inv .2) (sym (c .before .before .passes-in-order .ensures) ∙ c .before .if1 .left))
 
 pub least-spec : {M : Type 1} → statement M
 least-spec =
@@ -104,9 +122,14 @@ least-spec =
     own-choice-requires
     ordered-requires
     loop-holds
+    add-loop
+    add-middle
+    cast-passes-in-order
     passes-in-order-requires
-    returns
-    returns-2
-    add-interval
     loop-less
-    loop-again)
+    loop-again
+    loop-less-2
+    loop-again-2
+    returns
+    cast-result
+    returns-2)

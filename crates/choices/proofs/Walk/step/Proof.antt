@@ -40,23 +40,28 @@ returns-2 c =
     let none = tested-none (given .args .table) (good-start _ _ .0 good .0) (sym (c .before .is-late .ensures) ∙ c .if2 .taken) in
     simp good (ap (λ (list : List (List ℕ)). arriveAt (given .args .self) (afterOf (given .args .self .entries) list)) (sym none))
 
+no-bounds-requires : tie.Need-no-bounds-requires
+no-bounds-requires c κs = search needs
+
 advance-requires : tie.Need-advance-requires
 advance-requires c κs =
-    sym (c .before .before .before .judge-start .ensures) ∙ c .before .before .if1 .left
+    (sym (c .before .before .before .before .judge-start .ensures) ∙ c .before .before .before .if1 .left, λ some. absurd (some (c .no-bounds .ensures)))
 
 returns-3 : tie.Need-returns-3
 unfolding stepAnswer arriveAt
 returns-3 c =
-    let given = c .before .before .before .before .before .before .before .before in
-    let good = sym (c .before .before .before .before .before .before .judge-start .ensures) ∙ c .before .before .before .before .before .if1 .left in
+    let asked = c .before .before .before .before in
+    let given = asked .before .before .before .before .before in
+    let good = sym (asked .before .before .before .judge-start .ensures) ∙ asked .before .before .if1 .left in
     let listed = found-there _ (afterOf (given .args .self .entries) (passingOf (given .args .table))) _ (c .before .before .advance .ensures) (c .before .if3 .taken) in
     simp good (ap (arriveAt (given .args .self)) (sym listed))
 
 returns-4 : tie.Need-returns-4
 unfolding stepAnswer arriveAt
 returns-4 c =
-    let given = c .before .before .before .before .before .before .before in
-    let good = sym (c .before .before .before .before .before .judge-start .ensures) ∙ c .before .before .before .before .if1 .left in
+    let asked = c .before .before .before in
+    let given = asked .before .before .before .before .before in
+    let good = sym (asked .before .before .before .judge-start .ensures) ∙ asked .before .before .if1 .left in
     let ended = found-none _ (afterOf (given .args .self .entries) (passingOf (given .args .table))) _ (c .before .advance .ensures) (c .if3 .left) in
     simp good (ap (arriveAt (given .args .self)) (sym ended))
 
@@ -69,6 +74,7 @@ step-spec =
     returns
     is-late-requires
     returns-2
+    no-bounds-requires
     advance-requires
     returns-3
     returns-4)

@@ -16,10 +16,10 @@ use Rattle.choices.proofs.lister.fill.Statement.{statement}
 use Rattle.choices.proofs.lister.fill.Tie as tie
 
 abbrev Inv-loop : tie.InvT-loop
-Inv-loop table out₀ walk₀ entries₀ out walk entries = (walkRefusal table walk ≡ 0) × (entries ≤ length (passingOf table)) × (afterOf walk (passingOf table) ≡ drop entries (passingOf table)) × (length out ≡ length out₀) × (out ≡ sets out₀ 0 (bytesOf (take entries (passingOf table))))
+Inv-loop table bounds out₀ walk₀ entries₀ out walk entries = (walkRefusal table walk ≡ 0) × (entries ≤ length (passingOf table)) × (afterOf walk (passingOf table) ≡ drop entries (passingOf table)) × (length out ≡ length out₀) × (out ≡ sets out₀ 0 (bytesOf (take entries (passingOf table))))
 
 abbrev μ-loop : tie.MeasureT-loop
-μ-loop table out₀ walk₀ entries₀ out walk entries = length (passingOf table) - entries
+μ-loop table bounds out₀ walk₀ entries₀ out walk entries = length (passingOf table) - entries
 
 loop-holds : tie.Need-loop-holds Inv-loop μ-loop
 unfolding bytesOf
@@ -27,7 +27,7 @@ loop-holds c =
     (start-allowed (c .before .args .table) (c .before .pre .0), omega arith, from-start (c .before .args .table) (c .before .pre .0), refl, refl)
 
 advance-requires : tie.Need-advance-requires Inv-loop μ-loop
-advance-requires c κs = c .loop .inv .0
+advance-requires c κs = (c .loop .inv .0, c .before .before .pre .1)
 
 mul-put-entry : tie.Need-mul-put-entry Inv-loop μ-loop
 mul-put-entry c =
@@ -35,7 +35,7 @@ mul-put-entry c =
     let at = c .before .before .before .before .loop in
     let listed = found-there _ (afterOf (at .walk) (passingOf (given .args .table))) _ (c .before .before .before .advance .ensures) (c .before .before .if1 .taken) in
     let turn = turn-listed (given .args .table) (given .pre .0) (at .walk) _ _ (at .entries) (at .inv .2) listed in
-    omega (arith, turn .below, given .pre .1)
+    omega (arith, turn .below, given .pre .2)
 
 put-entry-requires : tie.Need-put-entry-requires Inv-loop μ-loop
 put-entry-requires c κs =
@@ -43,7 +43,7 @@ put-entry-requires c κs =
     let at = c .before .before .before .before .loop in
     let listed = found-there _ (afterOf (at .walk) (passingOf (given .args .table))) _ (c .before .before .before .advance .ensures) (c .before .before .if1 .taken) in
     let turn = turn-listed (given .args .table) (given .pre .0) (at .walk) _ _ (at .entries) (at .inv .2) listed in
-    (omega (arith, turn .below, given .pre .1, at .inv .3), turn .narrow)
+    (omega (arith, turn .below, given .pre .2, at .inv .3), turn .narrow)
 
 add-entries : tie.Need-add-entries Inv-loop μ-loop
 add-entries c =
@@ -51,7 +51,7 @@ add-entries c =
     let at = c .before .before .before .before .before .before .before .loop in
     let listed = found-there _ (afterOf (at .walk) (passingOf (given .args .table))) _ (c .before .before .before .before .before .before .advance .ensures) (c .before .before .before .before .before .if1 .taken) in
     let turn = turn-listed (given .args .table) (given .pre .0) (at .walk) _ _ (at .entries) (at .inv .2) listed in
-    omega (arith, turn .below, given .pre .1)
+    omega (arith, turn .below, given .pre .2)
 
 loop-less : tie.Need-loop-less Inv-loop μ-loop
 loop-less c =
@@ -92,7 +92,7 @@ returns c =
     let all : at .entries ≡ length (passingOf (given .args .table)) = omega (arith, length-drop (at .entries) (passingOf (given .args .table)), at .inv .1) in (
       all,
       at .inv .4 ∙ ap (λ (l : List (List ℕ)). sets (given .args .out .now) 0 (bytesOf l)) (take-all (at .entries) (passingOf (given .args .table)) (le-of-eq (sym all)))
-          ∙ list-stored (passingOf (given .args .table)) (given .args .out .now) (given .pre .1),
+          ∙ list-stored (passingOf (given .args .table)) (given .args .out .now) (given .pre .2),
     )
 
 pub fill-spec : {M : Type 1} → statement M

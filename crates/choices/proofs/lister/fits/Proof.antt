@@ -5,6 +5,7 @@ use native.Mathlib.Omega.{arith}
 use lib.ListN.{length}
 use mathlib.Core.List.{List}
 use borrow.Author.Tests.{lt-leb, le-leb}
+use Rattle.sheet.proofs.Cases.{good-table}
 use Rattle.choices.proofs.Demands.{listed-few}
 use Rattle.choices.proofs.Listed.{found-there, found-none, from-start, start-allowed, next-listed}
 use Rattle.choices.specs.Choices.{passingOf}
@@ -15,26 +16,31 @@ use Rattle.choices.proofs.lister.fits.Statement.{statement}
 use Rattle.choices.proofs.lister.fits.Tie as tie
 
 abbrev Inv-loop : tie.InvT-loop
-Inv-loop table room walk₀ left₀ walk left = (walkRefusal table walk ≡ 0) × (length (afterOf walk (passingOf table)) + room ≡ length (passingOf table) + left)
+Inv-loop table bounds room walk₀ left₀ walk left = (walkRefusal table walk ≡ 0) × (length (afterOf walk (passingOf table)) + room ≡ length (passingOf table) + left)
 
 abbrev μ-loop : tie.MeasureT-loop
-μ-loop table room walk₀ left₀ walk left = length (afterOf walk (passingOf table))
+μ-loop table bounds room walk₀ left₀ walk left = length (afterOf walk (passingOf table))
+
+most-requires : tie.Need-most-requires Inv-loop μ-loop
+most-requires c κs = good-table (c .args .table) (c .pre .0) .count .1
 
 returns : tie.Need-returns Inv-loop μ-loop
 returns c =
-    sym (le-leb (length (passingOf (c .before .args .table))) (c .before .args .room) (omega (arith, listed-few (c .before .args .table) (c .before .pre))))
+    let given = c .before .before in
+    sym (le-leb (length (passingOf (given .args .table))) (given .args .room) (omega (arith, listed-few (given .args .table) (given .pre .0))))
 
 loop-holds : tie.Need-loop-holds Inv-loop μ-loop
 loop-holds c =
-    (start-allowed (c .before .args .table) (c .before .pre), ap (λ (l : List (List ℕ)). length l + c .before .args .room) (from-start (c .before .args .table) (c .before .pre)))
+    let given = c .before .before in
+    (start-allowed (given .args .table) (given .pre .0), ap (λ (l : List (List ℕ)). length l + given .args .room) (from-start (given .args .table) (given .pre .0)))
 
 advance-requires : tie.Need-advance-requires Inv-loop μ-loop
 advance-requires c κs =
-    c .loop .inv .0
+    (c .loop .inv .0, c .before .before .before .pre .1)
 
 returns-2 : tie.Need-returns-2 Inv-loop μ-loop
 returns-2 c =
-    let given = c .before .before .before .before .before in
+    let given = c .before .before .before .before .before .before in
     let at = c .before .before .before .loop in
     let listed = found-there _ (afterOf (at .walk) (passingOf (given .args .table))) _ (c .before .before .advance .ensures) (c .before .if2 .taken) in
     let some = ap length listed in
@@ -45,25 +51,25 @@ sub-left c = search needs
 
 loop-less : tie.Need-loop-less Inv-loop μ-loop
 loop-less c =
-    let given = c .before .before .before .before .before .before in
+    let given = c .before .before .before .before .before .before .before in
     let at = c .before .before .before .before .loop in
     let listed = found-there _ (afterOf (at .walk) (passingOf (given .args .table))) _ (c .before .before .before .advance .ensures) (c .before .before .if2 .taken) in
-    let next = next-listed (given .args .table) (given .pre) (at .walk) _ _ listed in
+    let next = next-listed (given .args .table) (given .pre .0) (at .walk) _ _ listed in
     let fewer = ap length listed in
     omega (arith, ap length (next .after))
 
 loop-again : tie.Need-loop-again Inv-loop μ-loop
 loop-again c =
-    let given = c .before .before .before .before .before .before in
+    let given = c .before .before .before .before .before .before .before in
     let at = c .before .before .before .before .loop in
     let listed = found-there _ (afterOf (at .walk) (passingOf (given .args .table))) _ (c .before .before .before .advance .ensures) (c .before .before .if2 .taken) in
-    let next = next-listed (given .args .table) (given .pre) (at .walk) _ _ listed in
+    let next = next-listed (given .args .table) (given .pre .0) (at .walk) _ _ listed in
     let fewer = ap length listed in
     (next .going-on, omega (arith, ap length (next .after)))
 
 returns-3 : tie.Need-returns-3 Inv-loop μ-loop
 returns-3 c =
-    let given = c .before .before .before .before in
+    let given = c .before .before .before .before .before in
     let at = c .before .before .loop in
     let ended = found-none _ (afterOf (at .walk) (passingOf (given .args .table))) _ (c .before .advance .ensures) (c .if2 .left) in
     let nothing = ap length ended in
@@ -75,6 +81,7 @@ fits-spec =
     (tie.spec
     Inv-loop
     μ-loop
+    most-requires
     returns
     loop-holds
     advance-requires
