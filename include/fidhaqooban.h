@@ -18,8 +18,9 @@
  * Memory and time: no heap, no state, no call of anything outside the library; FQ_STACK_BYTES bounds the stack.
  * The x86-64 code uses the SSE registers, so whoever calls it where these are not saved (a kernel, an
  * interrupt handler) saves them first. fq_judge, fq_write, fq_rewrite, fq_record and fq_grant take about a microsecond, fq_mend a few;
- * fq_response, fq_slack and fq_verdict microseconds to milliseconds; fq_least_interval, fq_next and fq_list microseconds
- * to some tens of milliseconds, for all 40320 choices of eight tasks too (docs/PERFORMANCE.md has the slowest sheets).
+ * fq_response, fq_slack, fq_verdict, and fq_cores with up to 32 verdicts, microseconds to milliseconds; fq_least_interval,
+ * fq_next and fq_list microseconds to some tens of milliseconds, for all 40320 choices of eight tasks too
+ * (docs/PERFORMANCE.md has the slowest sheets).
  * Where the lowest task, of priority 1, is late, no choice passes, and fq_next and fq_list say so from that one response.
  *
  * Build the library with `rt staticlib fidhaqooban` and link target/staticlib/libfidhaqooban.a (x86-64).
@@ -35,7 +36,7 @@ extern "C" {
 #endif
 
 /* The version of this header and library; `./desk --version` prints the same. */
-#define FQ_VERSION "1.12.1"
+#define FQ_VERSION "1.13.0"
 
 /*
  * What a refused call gives, in the order in which the rules are tried: the number of the first rule broken,
@@ -55,7 +56,8 @@ enum fq_refusal {
     FQ_BAD_FAULT_PRIORITY = 10, /* a fault priority is outside 1 to the record's own priority */
     FQ_BAD_PLACE = 12,          /* the record place asked for is not below the count */
     FQ_BAD_CHOICE = 13,         /* the choice to go on after is neither 0 nor allowed */
-    FQ_SHARED_PROCESSOR = 19,   /* a log is replayed, and a record checked, for the whole processor only */
+    FQ_SHARED_PROCESSOR = 19,   /* logs are replayed, records checked and cores given for the whole processor only */
+    FQ_BAD_CORES = 23,          /* the number of cores is not 1 to 4 */
     FQ_ODD_LOG = 14,            /* a log has an odd number of bytes, or a record one that is no multiple of three */
     FQ_STRANGE_BIT = 15,        /* a tick has a release bit above the count, or one of the seven other bits set */
     FQ_EARLY_RELEASE = 16,      /* a release sooner than its period after that task's last */
@@ -73,6 +75,10 @@ enum fq_refusal {
 /* The longest sheet, eight tasks on a shared processor, and the longest list, all 8! choices of such a sheet, in bytes. */
 #define FQ_SHEET_BYTES 79
 #define FQ_LIST_BYTES 161280
+
+/* The most tasks of a sheet, which fq_cores gives a byte each, and the most cores of a box. */
+#define FQ_MOST_TASKS 8
+#define FQ_MOST_CORES 4
 
 /* The counts of fq_replay: ticks of the first three kinds, which are all ticks, and jobs; those released are finished, missed or unfinished. */
 enum fq_count {
@@ -240,6 +246,18 @@ int64_t fq_grant(uint32_t period, uint8_t count, const uint32_t *starts, size_t 
  * overlap.
  */
 int64_t fq_mend(const uint8_t *sheet, size_t len, uint8_t *out, size_t out_len, uint64_t *changes, size_t changes_len);
+
+/*
+ * Puts the records of a sheet on a box with several cores, which tasks never change: each record in its turn on the
+ * lowest-numbered core where that core's tasks still pass, their priorities ranked from 1 in their old order within the
+ * core and each fault priority equal to the priority. Each core has its own faults, spaced by the sheet's interval; the
+ * sheet's own fault priorities play no part.
+ * Answer: 0 with each record's core, from 1, in `out`, a byte each in record order; the first record, from 1, that fits
+ * none, with `out` as it was; or minus the refusal (1 to 10, 18, 19 for a shared processor, 23 where `cores` is not 1 to
+ * FQ_MOST_CORES, and last 11, only where each record has a core and there is no room for them). Bytes after those of the
+ * records are not touched.
+ */
+int64_t fq_cores(const uint8_t *sheet, size_t len, uint8_t cores, uint8_t *out, size_t out_len);
 
 #ifdef __cplusplus
 }

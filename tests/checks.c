@@ -10,7 +10,7 @@
 
 enum { MOST_REPORTS = 20 };
 
-static const char *const KINDS[] = {[CODEC] = "codec", [ANALYSIS] = "analysis", [REPLAY] = "replay", [LOCK] = "lock", [MEND] = "mend"};
+static const char *const KINDS[] = {[CODEC] = "codec", [ANALYSIS] = "analysis", [REPLAY] = "replay", [LOCK] = "lock", [MEND] = "mend", [CORES] = "cores"};
 
 /* One call with both its answers, as a report of a difference shows it. */
 struct call {
@@ -405,10 +405,34 @@ int64_t check_mend(struct comparison *comparison, size_t out_len, size_t changes
     return call.plain;
 }
 
+/* Compares the cores of the sheet's records, in an output with room for so many. */
+int64_t check_cores(struct comparison *comparison, uint8_t cores, size_t out_len)
+{
+    uint8_t before[CORES_ROOM], library[CORES_ROOM], *plain = comparison->lent_to_plain;
+    struct call call = {.function = "fq_cores", .argument = cores};
+    random_bytes(&comparison->generator, before, sizeof before);
+    memcpy(library, before, sizeof before);
+    memcpy(plain, before, sizeof before);
+    call.library = fq_cores(laid(comparison), comparison->sheet_length, cores, library + 1, out_len);
+    call.plain = plain_cores(laid(comparison), comparison->sheet_length, cores, plain + 1, out_len);
+    settle_call(comparison, &call);
+    settle(comparison, &call, "cores", memcmp(library, plain, sizeof library) == 0);
+    if (call.plain != 0) {
+        settle(comparison, &call, "output without cores", memcmp(library, before, sizeof before) == 0);
+    }
+    return call.plain;
+}
+
 /* The first number that the plain desk wrote. */
 uint64_t listed_changes(const struct comparison *comparison)
 {
     return comparison->changes_of_plain[1];
+}
+
+/* The byte at the place, after the one in front of the output. */
+uint8_t core_at(const struct comparison *comparison, size_t place)
+{
+    return comparison->lent_to_plain[1 + place];
 }
 
 /* Puts the four bytes of an entry together, the first one highest. */

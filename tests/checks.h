@@ -20,11 +20,12 @@ enum {
     COUNTS_ROOM = 16,
     SLACKS_ROOM = 4,
     MARGINS_ROOM = 4,
-    CHANGES_ROOM = FQ_CHANGES_NUMBERS + 4
+    CHANGES_ROOM = FQ_CHANGES_NUMBERS + 4,
+    CORES_ROOM = FQ_MOST_TASKS + 8
 };
 
 /* The kinds of rounds. */
-enum round_kind { CODEC, ANALYSIS, REPLAY, LOCK, MEND };
+enum round_kind { CODEC, ANALYSIS, REPLAY, LOCK, MEND, CORES };
 
 /* The state of a whole run: which round it is in, what it lends to the calls, and what was found so far. */
 struct comparison {
@@ -80,6 +81,7 @@ int64_t check_grant(struct comparison *comparison, const struct asking *asking, 
 /* Checks that the library's answer to a request, and its margin, are the expected ones; the plain desk is not asked. */
 void check_granting(struct comparison *comparison, const struct asking *asking, int64_t answer, int64_t margin);
 int64_t check_mend(struct comparison *comparison, size_t out_len, size_t changes_len);
+int64_t check_cores(struct comparison *comparison, uint8_t cores, size_t out_len);
 
 /* Checks that the library's step after a choice is the expected one; the plain desk is not asked again. */
 void check_step(struct comparison *comparison, uint32_t after, int64_t expected);
@@ -89,6 +91,9 @@ void check_interval(struct comparison *comparison, int64_t expected);
 
 /* How many changes the plain desk listed last. */
 uint64_t listed_changes(const struct comparison *comparison);
+
+/* The core of the record at a place that the plain desk wrote last. */
+uint8_t core_at(const struct comparison *comparison, size_t place);
 
 /* The entry at an index of the list that the plain desk wrote last. */
 uint32_t listed_entry(const struct comparison *comparison, size_t index);

@@ -25,6 +25,7 @@ int64_t plain_list(const uint8_t *sheet, size_t len, uint8_t *out, size_t out_le
 int64_t plain_replay(const uint8_t *sheet, size_t len, const uint8_t *log, size_t log_len, uint64_t *counts,
                      size_t counts_len);
 int64_t plain_check(const uint8_t *sheet, size_t len, const uint8_t *record, size_t record_len);
+int64_t plain_cores(const uint8_t *sheet, size_t len, uint8_t cores, uint8_t *out, size_t out_len);
 
 int64_t plain_mend(const uint8_t *sheet, size_t len, uint8_t *out, size_t out_len, uint64_t *changes,
                    size_t changes_len);

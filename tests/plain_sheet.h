@@ -34,6 +34,7 @@ enum refusal {
     BAD_STARTS = 20,
     INSIDE_A_JOB = 21,
     HELD = 22,
+    BAD_CORES = 23,
     BAD_REQUEST = 25
 };
 

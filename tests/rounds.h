@@ -1,14 +1,14 @@
 /*
  * The kinds of rounds of the comparison: codec rounds, which read, write and damage sheets, analysis rounds,
  * which ask for times, verdicts, intervals and choices, replay rounds, which replay logs and check records, lock rounds,
- * which ask for locks, and mend rounds, which mend sheets typed by hand.
+ * which ask for locks, mend rounds, which mend sheets typed by hand, and rounds of boxes with several cores.
  */
 #ifndef ROUNDS_H
 #define ROUNDS_H
 
 #include "checks.h"
 
-enum { JUDGEMENTS = 19, REPLAY_JUDGEMENTS = 20, LOCK_JUDGEMENTS = 26 };
+enum { JUDGEMENTS = 19, REPLAY_JUDGEMENTS = 20, LOCK_JUDGEMENTS = 26, CORES_JUDGEMENTS = 24, MOST_CORES = 4 };
 
 /* What was run so far, by kind. */
 struct tally {
@@ -43,6 +43,10 @@ struct tally {
     uint64_t unchanged;
     uint64_t changes;
     uint64_t most_changes;
+    uint64_t boxes;
+    uint64_t boxes_refused[CORES_JUDGEMENTS];
+    uint64_t cores_needed[MOST_CORES + 1];
+    uint64_t boxes_too_small;
 };
 
 /* Checks the least intervals at the far end and the most changes of a sheet, which random sheets do not reach, and sheets of every length. */
@@ -65,5 +69,8 @@ void lock_round(struct comparison *comparison, struct tally *tally, uint64_t rou
 
 /* Runs one mend round. */
 void mend_round(struct comparison *comparison, struct tally *tally, uint64_t round);
+
+/* Runs one round of a box with several cores. */
+void cores_round(struct comparison *comparison, struct tally *tally, uint64_t round);
 
 #endif

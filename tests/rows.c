@@ -101,6 +101,23 @@ static void answer_record(struct row *row)
     }
 }
 
+/* SHEET CORES: the refusal, and where there is none each record's core, or none and the first record that fits none. */
+static void answer_cores(struct row *row)
+{
+    static struct bytes sheet;
+    uint8_t cores[FQ_MOST_TASKS] = {0};
+    read_bytes(row->word[0], &sheet);
+    int64_t answer = fq_cores(sheet.at, sheet.length, (uint8_t)atoi(row->word[1]), cores, sizeof cores);
+    add_number(row, answer < 0 ? -answer : 0);
+    if (answer > 0) {
+        add_word(row, "none");
+        add_number(row, answer);
+    }
+    for (size_t place = 0; answer == 0 && place < sheet.at[0] / 16u; place++) {
+        add_number(row, cores[place]);
+    }
+}
+
 /* Adds the response and the slack of each record. */
 static void add_slacks(struct row *row, const struct bytes *sheet)
 {
@@ -251,6 +268,7 @@ static const struct kind {
     {"ask-09-locks.txt", 8, answer_locks},
     {"ask-11-mend.txt", 1, answer_mend},
     {"ask-12-runs.txt", 2, answer_run},
+    {"ask-13-cores.txt", 2, answer_cores},
 };
 
 /* The kind of a file. */

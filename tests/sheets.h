@@ -64,6 +64,9 @@ struct draft wide_draft(struct generator *generator);
 /* A good draft of so many tasks with periods up to the longest and a load near what just passes. */
 struct draft timed_draft(struct generator *generator, unsigned tasks, unsigned longest);
 
+/* A good draft of up to 8 tasks for a box with several cores: the tasks of one to four timed drafts in one. */
+struct draft box_draft(struct generator *generator, unsigned longest);
+
 /* A good draft of 5 to 8 tasks whose highest task is late only by a sum that takes 31 or more bits. */
 struct draft heavy_draft(struct generator *generator);
 

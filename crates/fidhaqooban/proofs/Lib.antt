@@ -8,6 +8,7 @@ pub mod Checked
 pub mod Lent
 pub mod Locked
 pub mod Changed
+pub mod Settled
 pub mod SecondJob
 pub mod Written
 pub mod Chosen

@@ -38,7 +38,7 @@ use Rattle.fidhaqooban.specs.Numbers.{answerOf, tableFrom, givenTable, t
 use Rattle.replay.specs.Machines.{machineOf}
 use Rattle.replay.specs.Shown.{matching}
 use Rattle.replay.specs.Answers.{replayAnswer, checkRefusal}
-use Rattle.fidhaqooban.specs.Answers.{writeSharedNumber, writeSharedLeft, writeNumber, writeLeft, rewriteRefusal, rewriteNumber, rewriteLeft, recordNumber, responseNumber, slackRefusal, slackNumber, slackLeft, verdictNumber, intervalNumber, firstNumber, nextRefusal, nextNumber, listingRefusal, listNumber, listLeft, replayedRefusal, replayNumber, replayLeft, checkNumber, mendingRefusal, mendNumber, mendLeft, mendListed}
+use Rattle.fidhaqooban.specs.Answers.{writeSharedNumber, writeSharedLeft, writeNumber, writeLeft, rewriteRefusal, rewriteNumber, rewriteLeft, recordNumber, responseNumber, slackRefusal, slackNumber, slackLeft, verdictNumber, intervalNumber, firstNumber, nextRefusal, nextNumber, listingRefusal, listNumber, listLeft, replayedRefusal, replayNumber, replayLeft, checkNumber, mendingRefusal, mendNumber, mendLeft, mendListed, firstOut, coresRefusal, coresNumber}
 use Rattle.locks.specs.declared.Starts.{Starts}
 use Rattle.locks.specs.declared.Resource.{Resource}
 use Rattle.locks.specs.declared.Request.{Request}
@@ -260,3 +260,8 @@ pub four-numbers : (list : List Change) (k : ℕ) → k < length list
 unfolding changesFrom changeNumbers
 four-numbers list k below =
     (refl, ap (λ (n : ℕ). take 4 (drop n (changesNumbers list))) (one-add (4 * k)) ∙ run-at 4 (λ place. changeNumbers (getD list place noChange)) (λ place. refl) (length list) k below)
+
+-- `fq_cores`: "0 where every record has a core", "the first record from 1 that fits none". When 11 comes and what is left in the output is in Settled.antt
+pub cores-said : (sheet : List ℕ) (number : ℕ) (out : List ℕ) → Said (coresRefusal sheet number out) (firstOut sheet number) (coresNumber sheet number out)
+unfolding coresNumber
+cores-said sheet number out = said _ _

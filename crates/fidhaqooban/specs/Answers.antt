@@ -1,12 +1,12 @@
 -- What each function answers, as a number of C, and what it leaves in the lent output.
 use Prim.Native.Nat.{ℕ, _+_, _*_}
-use mathlib.Core.Bool.{cond, _||_}
+use mathlib.Core.Bool.{cond, _&&_, _||_}
 use mathlib.Core.List.{List, [], _∷_, _++_}
 use lib.Dec.{eqb, ltb}
 use lib.IntN.{ℤ}
-use lib.ListN.{length, drop}
+use lib.ListN.{length, take, drop}
 use Rattle.sheet.specs.Places.{orElse}
-use Rattle.sheet.specs.Layout.{tableSize, startOf, tableOf}
+use Rattle.sheet.specs.Layout.{countOf, tableSize, startOf, tableOf}
 use Rattle.sheet.specs.Rules.{sheetRefusal}
 use Rattle.sheet.specs.Answers.{writeRefusal, writeLeaves, placeRefusal}
 use Rattle.analysis.specs.Response.{passes}
@@ -19,6 +19,8 @@ use Rattle.replay.specs.Shown.{matching}
 use Rattle.replay.specs.Answers.{replayRefusal, replayAnswer, checkRefusal}
 use Rattle.mend.specs.Mended.{mended}
 use Rattle.mend.specs.Changes.{changesOf}
+use Rattle.cores.specs.FirstFit.{fitsNone}
+use Rattle.cores.specs.Answers.{boxRefusal, coresOf}
 use Rattle.fidhaqooban.specs.Numbers.{answerOf, givenTable, timeOf, figuresOf, figureIn, entriesOf, choiceOf, countNumbers, changesNumbers}
 
 -- `fq_write_shared`: "bytes written"
@@ -137,3 +139,20 @@ mendLeft sheet out changes = cond (eqb (mendingRefusal sheet out changes) 0) (me
 -- and in the other: the changes' numbers and then the numbers as they were, or all as it was
 unfoldable pub mendListed : List ℕ → List ℕ → List ℕ → List ℕ
 mendListed sheet out changes = cond (eqb (mendingRefusal sheet out changes) 0) (changesNumbers (changesOf sheet) ++ drop (listSize sheet) changes) changes
+
+-- the first record of a sheet, from 1, that fits none of so many cores, 0 where each has its core
+unfoldable pub firstOut : List ℕ → ℕ → ℕ
+firstOut sheet number = fitsNone (ownTasks (tableOf sheet)) number
+
+-- the refusal of `fq_cores`: that of the sheet and the number, then 11, "only where there are cores to write and no room"
+unfoldable pub coresRefusal : List ℕ → ℕ → List ℕ → ℕ
+coresRefusal sheet number out = orElse (boxRefusal sheet number) (cond (eqb (firstOut sheet number) 0 && ltb (length out) (countOf sheet)) 11 0)
+
+-- `fq_cores`: "0 where every record has a core", "the first record from 1 that fits none", or minus the refusal
+unfoldable pub coresNumber : List ℕ → ℕ → List ℕ → ℤ
+coresNumber sheet number out = answerOf (coresRefusal sheet number out) (firstOut sheet number)
+
+-- what it leaves in the output: "a byte each" and then the bytes as they were, or all as it was
+unfoldable pub coresLeft : List ℕ → ℕ → List ℕ → List ℕ
+coresLeft sheet number out =
+    cond (eqb (coresRefusal sheet number out) 0 && eqb (firstOut sheet number) 0) (take (countOf sheet) (coresOf (ownTasks (tableOf sheet)) number) ++ drop (countOf sheet) out) out

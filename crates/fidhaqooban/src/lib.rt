@@ -2,11 +2,12 @@
 // Each function is thin: it reads the sheet, asks the crate that answers, and turns the answer into a number.
 ghost use mathlib.Core.Path.{_≡_};
 ghost use Rattle.sheet.specs.Rules.{sheetRefusal};
-ghost use Rattle.fidhaqooban.specs.Answers.{writeSharedNumber, writeSharedLeft, writeNumber, writeLeft, rewriteNumber, rewriteLeft, recordNumber, responseNumber, slackNumber, slackLeft, verdictNumber, intervalNumber, nextNumber, listNumber, listLeft, replayNumber, replayLeft, checkNumber, mendNumber, mendLeft, mendListed};
+ghost use Rattle.fidhaqooban.specs.Answers.{writeSharedNumber, writeSharedLeft, writeNumber, writeLeft, rewriteNumber, rewriteLeft, recordNumber, responseNumber, slackNumber, slackLeft, verdictNumber, intervalNumber, nextNumber, listNumber, listLeft, replayNumber, replayLeft, checkNumber, mendNumber, mendLeft, mendListed, coresNumber, coresLeft};
 ghost use Rattle.fidhaqooban.specs.Locking.{givenRequest, grantingOf, lockNumber, lockLeft};
 use analysis::Interval;
 use choices::Arrival;
 use choices::Walk;
+use cores::Fit;
 use locks::Request;
 use replay::Checked;
 
@@ -267,4 +268,26 @@ pub extern "C" fn fq_mend(sheet: &[u8], out: &mut [u8], changes: &mut [u64]) -> 
     bytes::copy(&longest[..size], out);
     numbers::put_changes(list, listed.count, changes);
     numbers::answer(0, size)
+}
+
+// Puts each record on a core: 0, with each record's core from 1 at the start of the output, or the first record from 1 that fits none.
+#[no_mangle]
+pub extern "C" fn fq_cores(sheet: &[u8], number: u8, out: &mut [u8]) -> i64
+    ensures { λ r. ⌜ (r ≡ coresNumber (now (sheet .entry)) number (now (out .entry))) × (now (out .exit) ≡ coresLeft (now (sheet .entry)) number (now (out .entry))) ⌝ }
+{
+    let placing = cores::place(sheet, number);
+    let fit = placing.fit;
+    match fit {
+        Fit::Refused(refusal) => numbers::answer(refusal, 0),
+        Fit::FitsNone(first) => numbers::answer(0, first as usize),
+        Fit::Everyone => {
+            let given = placing.cores;
+            let count = numbers::count(sheet);
+            if out.len() < count {
+                return numbers::answer(11, 0);
+            }
+            numbers::put_cores(given, count, out);
+            numbers::answer(0, 0)
+        }
+    }
 }

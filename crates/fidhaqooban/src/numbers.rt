@@ -1,9 +1,10 @@
 // Tables, choices, times, counts and answers as the numbers of C.
 ghost use mathlib.Core.Path.{_≡_};
 ghost use Prim.Native.Nat.{_+_, _*_, _≤_, _<_, _^_};
-ghost use lib.ListN.{length};
+ghost use lib.ListN.{length, take, drop};
 ghost use lib.Seq.{sets};
-ghost use Rattle.sheet.specs.Layout.{startOf};
+ghost use mathlib.Core.List.{_++_};
+ghost use Rattle.sheet.specs.Layout.{countOf, startOf};
 ghost use Rattle.sheet.specs.Rules.{sheetRefusal};
 ghost use Rattle.choices.specs.Stepping.{small};
 ghost use Rattle.mend.specs.Changes.{fieldNumber};
@@ -97,6 +98,14 @@ pub fn start(sheet: &[u8]) -> usize
     ensures { λ r. ⌜ (r ≡ startOf (now (sheet .entry))) × (r ≤ 7) ⌝ }
 {
     3 + 4 * (sheet[0] % 16) as usize
+}
+
+// A good sheet's count, the high half of the first byte.
+pub fn count(sheet: &[u8]) -> usize
+    requires { ⌜ sheetRefusal (now sheet) ≡ 0 ⌝ }
+    ensures { λ r. ⌜ (r ≡ countOf (now (sheet .entry))) × (r ≤ 8) ⌝ }
+{
+    (sheet[0] / 16) as usize
 }
 
 // An outcome's time, 0 where it is late.
@@ -198,6 +207,18 @@ pub fn put_changes(list: [Change; 17], count: u8, out: &mut [u64])
     let mut place: usize = 0;
     while place < count as usize {
         put_change(list[place], out, 1 + 4 * place);
+        place += 1;
+    }
+}
+
+// Puts the first so many cores at the start of an output that has room.
+pub fn put_cores(cores: [u8; 8], count: usize, out: &mut [u8])
+    requires { ⌜ (count ≤ 8) × (count ≤ length (now out)) ⌝ }
+    ensures { λ _. ⌜ now (out .exit) ≡ take count cores ++ drop count (now (out .entry)) ⌝ }
+{
+    let mut place: usize = 0;
+    while place < count {
+        out[place] = cores[place];
         place += 1;
     }
 }

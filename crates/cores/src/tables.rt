@@ -1,0 +1,80 @@
+// The table of a core that a record is tried on: the records that are on it, and that record, with their priorities ranked from 1 and each
+// fault priority equal to the priority.
+ghost use mathlib.Core.Path.{_≡_};
+ghost use mathlib.Core.Bool.{cond};
+ghost use Prim.Native.Nat.{suc, _≤_, _<_};
+ghost use lib.ListN.{getD};
+ghost use Rattle.sheet.specs.Layout.{recordAt};
+ghost use Rattle.cores.specs.Ranks.{rankAmong, ranked};
+ghost use Rattle.cores.specs.FirstFit.{joins};
+ghost use Rattle.cores.specs.Tried.{Tried};
+use sheet::Record;
+use sheet::Table;
+
+// Whether the record at another place is on the core or is the one that is tried.
+fn joins(cores: [u8; 8], place: usize, core: u8, other: usize) -> bool
+    requires { ⌜ other < 8 ⌝ }
+    ensures { λ r. ⌜ r ≡ joins (λ k. getD cores k 0) place core other ⌝ }
+{
+    (other == place) | (cores[other] == core)
+}
+
+// 1 for what is so, else 0.
+fn one_if(is_so: bool) -> u8
+    ensures { λ r. ⌜ (r ≡ cond «is_so» 1 0) × (r ≤ 1) ⌝ }
+{
+    if is_so { 1 } else { 0 }
+}
+
+// The rank of a priority among the records of the core.
+fn rank(table: Table, cores: [u8; 8], place: usize, core: u8, priority: u8) -> u8
+    requires { ⌜ place < 8 ⌝ }
+    ensures { λ r. ⌜ r ≡ rankAmong (recordAt (table .records)) (joins (λ k. getD cores k 0) place core) (suc place) priority ⌝ }
+{
+    let mut rank: u8 = 1;
+    let mut other: usize = 0;
+    while other <= place {
+        let is_lower = table.records[other].priority < priority;
+        rank += one_if(joins(cores, place, core, other) & is_lower);
+        other += 1;
+    }
+    rank
+}
+
+// A record with a rank for both its priorities.
+fn ranked(task: Record, rank: u8) -> Record
+    ensures { λ r. ⌜ r ≡ ranked task rank ⌝ }
+{
+    Record {
+        cost: task.cost,
+        backup: task.backup,
+        deadline: task.deadline,
+        period: task.period,
+        priority: rank,
+        fault_priority: rank,
+    }
+}
+
+// The core's table. A record that is not of the core is written over by the next one that is, or lies past the count.
+pub fn table_with(table: Table, cores: [u8; 8], place: usize, core: u8) -> Table
+    requires { ⌜ place < 8 ⌝ }
+    ensures { λ r. ⌜ Tried table (λ k. getD cores k 0) place core r ⌝ }
+{
+    let mut records = [table.records[0]; 8];
+    let mut count: usize = 0;
+    let mut other: usize = 0;
+    while other <= place {
+        let task = table.records[other];
+        let level = rank(table, cores, place, core, task.priority);
+        records[count] = ranked(task, level);
+        count += joins(cores, place, core, other) as usize;
+        other += 1;
+    }
+    Table {
+        count: count as u8,
+        interval: table.interval,
+        round: table.round,
+        share: table.share,
+        records,
+    }
+}
