@@ -46,6 +46,7 @@ static void short_list(void) { fq_list(sheet, length, output, 40); }
 static void replay(void) { fq_replay(sheet, length, log_bytes, sizeof log_bytes, counts, FQ_COUNTS); }
 static void cores(void) { fq_cores(sheet, length, FQ_MOST_CORES, output, sizeof output); }
 static void check(void) { fq_check(sheet, length, record_bytes, sizeof record_bytes); }
+static void release(void) { fq_release(sheet, length, sheet, length, 255); }
 static void grant(void) { fq_grant(40, 2, starts, 4, uses, 2, resources, sizeof resources, 1, 3, 0, 11, &margin, 1); }
 static void mend(void) { fq_mend(sheet, sizeof sheet, output, sizeof output, changes, FQ_CHANGES_NUMBERS); }
 
@@ -75,7 +76,7 @@ int main(void)
         {"fq_judge", judge}, {"fq_write", write}, {"fq_write_shared", write_shared}, {"fq_rewrite", rewrite}, {"fq_record", record},
         {"fq_response", response}, {"fq_slack", slack}, {"fq_verdict", verdict},
         {"fq_least_interval", least_interval}, {"fq_next", next}, {"fq_list", list}, {"fq_list, no room", short_list}, {"fq_replay", replay}, {"fq_check", check}, {"fq_grant", grant}, {"fq_mend", mend},
-        {"fq_cores", cores},
+        {"fq_cores", cores}, {"fq_release", release},
     };
     const uint16_t intervals[] = {everyday.interval, 1};
     size_t empty = depth(nothing);

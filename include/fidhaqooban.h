@@ -18,7 +18,7 @@
  * Memory and time: no heap, no state, no call of anything outside the library; FQ_STACK_BYTES bounds the stack.
  * The x86-64 code uses the SSE registers, so whoever calls it where these are not saved (a kernel, an
  * interrupt handler) saves them first. fq_judge, fq_write, fq_rewrite, fq_record and fq_grant take about a microsecond, fq_mend a few;
- * fq_response, fq_slack, fq_verdict, and fq_cores with up to 32 verdicts, microseconds to milliseconds; fq_least_interval,
+ * fq_response, fq_slack, fq_verdict, fq_release, and fq_cores with up to 32 verdicts, microseconds to milliseconds; fq_least_interval,
  * fq_next and fq_list microseconds to some tens of milliseconds, for all 40320 choices of eight tasks too
  * (docs/PERFORMANCE.md has the slowest sheets).
  * Where the lowest task, of priority 1, is late, no choice passes, and fq_next and fq_list say so from that one response.
@@ -36,7 +36,7 @@ extern "C" {
 #endif
 
 /* The version of this header and library; `./desk --version` prints the same. */
-#define FQ_VERSION "1.13.0"
+#define FQ_VERSION "1.14.0"
 
 /*
  * What a refused call gives, in the order in which the rules are tried: the number of the first rule broken,
@@ -54,7 +54,8 @@ enum fq_refusal {
     FQ_BAD_DEADLINE = 8,        /* a deadline is above its period */
     FQ_BAD_PRIORITY = 9,        /* a priority is outside 1 to the count, or an earlier record has it */
     FQ_BAD_FAULT_PRIORITY = 10, /* a fault priority is outside 1 to the record's own priority */
-    FQ_BAD_PLACE = 12,          /* the record place asked for is not below the count */
+    FQ_DIFFERENT_COUNTS = 24,   /* the sheet in use and the candidate have different counts */
+    FQ_BAD_PLACE = 12,          /* the record place asked for, or a protected place, is not below the count */
     FQ_BAD_CHOICE = 13,         /* the choice to go on after is neither 0 nor allowed */
     FQ_SHARED_PROCESSOR = 19,   /* logs are replayed, records checked and cores given for the whole processor only */
     FQ_BAD_CORES = 23,          /* the number of cores is not 1 to 4 */
@@ -258,6 +259,18 @@ int64_t fq_mend(const uint8_t *sheet, size_t len, uint8_t *out, size_t out_len, 
  * records are not touched.
  */
 int64_t fq_cores(const uint8_t *sheet, size_t len, uint8_t cores, uint8_t *out, size_t out_len);
+
+/*
+ * Which of two sheets a box loads: the one in use or a candidate. Tasks are matched by place. `protected_places` has one bit
+ * for each place whose task may not get slower, place 0 as the lowest bit. The candidate is to be loaded exactly if it passes
+ * and at no protected place its response is longer than that of the sheet in use. A task late in use counts as longer than any
+ * time; a candidate that does not pass is never loaded. Each sheet is judged under its own fault interval, share and fault
+ * priorities, and the two may be of different editions.
+ * Answer: 1 load the candidate, 0 keep the one in use, or minus the refusal: that of the sheet in use, then that of the
+ * candidate (1 to 10 or 18 each), then 24 and 12. Refused, the box keeps what it has.
+ */
+int64_t fq_release(const uint8_t *in_use, size_t in_use_len, const uint8_t *candidate, size_t candidate_len,
+                   uint8_t protected_places);
 
 #ifdef __cplusplus
 }

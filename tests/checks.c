@@ -10,7 +10,8 @@
 
 enum { MOST_REPORTS = 20 };
 
-static const char *const KINDS[] = {[CODEC] = "codec", [ANALYSIS] = "analysis", [REPLAY] = "replay", [LOCK] = "lock", [MEND] = "mend", [CORES] = "cores"};
+static const char *const KINDS[] = {[CODEC] = "codec", [ANALYSIS] = "analysis", [REPLAY] = "replay", [LOCK] = "lock", [MEND] = "mend", [CORES] = "cores",
+                                    [RELEASE] = "release"};
 
 /* One call with both its answers, as a report of a difference shows it. */
 struct call {
@@ -21,6 +22,7 @@ struct call {
     const struct writing *writing;
     const struct log *log;
     const struct asking *asking;
+    const struct sheet *candidate;
 };
 
 /* Prints what was given to be written: count, interval, round, share and the numbers that are there, in hexadecimal. */
@@ -84,6 +86,9 @@ static void settle(struct comparison *comparison, const struct call *call, const
     }
     if (call->log != NULL) {
         print_bytes(", log or record", call->log->bytes, call->log->length);
+    }
+    if (call->candidate != NULL) {
+        print_bytes(", candidate", call->candidate->bytes, call->candidate->length);
     }
     printf(", seed %" PRIu64 " count %" PRIu64 ", %s round %" PRIu64 "\n", comparison->seed,
            comparison->count, KINDS[comparison->kind], comparison->round);
@@ -341,6 +346,18 @@ int64_t check_supplied(struct comparison *comparison, const struct log *record)
     call.plain = plain_check(laid(comparison), comparison->sheet_length, record->bytes, record->length);
     settle_call(comparison, &call);
     settle(comparison, &call, "record", memcmp(&given, record, sizeof given) == 0);
+    return call.plain;
+}
+
+/* Compares which of two sheets is to be loaded: the one laid is in use, and the library gets a copy of the candidate, which must not change. */
+int64_t check_release(struct comparison *comparison, const struct sheet *candidate, uint8_t protected_places)
+{
+    struct sheet given = *candidate;
+    struct call call = {.function = "fq_release", .argument = protected_places, .candidate = candidate};
+    call.library = fq_release(laid(comparison), comparison->sheet_length, given.bytes, given.length, protected_places);
+    call.plain = plain_release(laid(comparison), comparison->sheet_length, candidate->bytes, candidate->length, protected_places);
+    settle_call(comparison, &call);
+    settle(comparison, &call, "candidate", memcmp(&given, candidate, sizeof given) == 0);
     return call.plain;
 }
 

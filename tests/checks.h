@@ -7,6 +7,7 @@
 
 #include "locks.h"
 #include "logs.h"
+#include "releases.h"
 #include "sheets.h"
 
 #include <fidhaqooban.h>
@@ -25,7 +26,7 @@ enum {
 };
 
 /* The kinds of rounds. */
-enum round_kind { CODEC, ANALYSIS, REPLAY, LOCK, MEND, CORES };
+enum round_kind { CODEC, ANALYSIS, REPLAY, LOCK, MEND, CORES, RELEASE };
 
 /* The state of a whole run: which round it is in, what it lends to the calls, and what was found so far. */
 struct comparison {
@@ -77,6 +78,7 @@ int64_t check_list(struct comparison *comparison, size_t out_len);
 int64_t check_replay(struct comparison *comparison, const struct log *log, size_t counts_len);
 int64_t check_supplied(struct comparison *comparison, const struct log *record);
 int64_t check_grant(struct comparison *comparison, const struct asking *asking, size_t margin_len, int64_t *margin);
+int64_t check_release(struct comparison *comparison, const struct sheet *candidate, uint8_t protected_places);
 
 /* Checks that the library's answer to a request, and its margin, are the expected ones; the plain desk is not asked. */
 void check_granting(struct comparison *comparison, const struct asking *asking, int64_t answer, int64_t margin);

@@ -25,6 +25,8 @@ enum {
     CODEC_SHEETS_FOR_TYPED_SHEET = 4,
     /* One box has its records placed for so many. */
     CODEC_SHEETS_FOR_BOX = 8,
+    /* One pair of sheets is put to the release desk for so many. */
+    CODEC_SHEETS_FOR_PAIR = 4,
     /* The first refusal of a log or a record, and the one after the others that only a sheet can have. */
     FIRST_OF_LOGS = 14,
     BAD_SHARE = 18,
@@ -42,11 +44,12 @@ static void print_usage(FILE *stream)
             "usage: compare [SEED [COUNT]]\n"
             "Runs COUNT random sheets through reading and writing, COUNT / %d through the analysis and\n"
             "COUNT / %d logs and as many supplier's records through the replay, asks for COUNT / %d locks, mends COUNT / %d sheets\n"
-            "typed by hand and places the records of COUNT / %d boxes, each through the library and through a plain implementation,\n"
-            "and compares the answers.\n"
+            "typed by hand, places the records of COUNT / %d boxes and puts COUNT / %d pairs of sheets to the release desk,\n"
+            "each through the library and through a plain implementation, and compares the answers.\n"
             "SEED and COUNT are whole numbers; the defaults are %d and %d.\n"
             "Status: 0 no difference, 1 a difference or nothing run, 2 bad arguments.\n",
-            CODEC_SHEETS_FOR_ANALYSIS_SHEET, CODEC_SHEETS_FOR_LOG, CODEC_SHEETS_FOR_LOCK, CODEC_SHEETS_FOR_TYPED_SHEET, CODEC_SHEETS_FOR_BOX, DEFAULT_SEED, DEFAULT_COUNT);
+            CODEC_SHEETS_FOR_ANALYSIS_SHEET, CODEC_SHEETS_FOR_LOG, CODEC_SHEETS_FOR_LOCK, CODEC_SHEETS_FOR_TYPED_SHEET, CODEC_SHEETS_FOR_BOX,
+            CODEC_SHEETS_FOR_PAIR, DEFAULT_SEED, DEFAULT_COUNT);
 }
 
 /* Reads a whole number of decimal digits only. */
@@ -87,6 +90,9 @@ static void print_tally(const struct comparison *comparison, const struct tally 
     print_answers("boxes by refusal of fq_cores", tally->boxes_refused, CORES_JUDGEMENTS);
     printf("boxes whose highest core is 1 to 4: %" PRIu64 " %" PRIu64 " %" PRIu64 " %" PRIu64 ", with a record that fits none: %" PRIu64 "\n",
            tally->cores_needed[1], tally->cores_needed[2], tally->cores_needed[3], tally->cores_needed[4], tally->boxes_too_small);
+    print_answers("pairs by refusal of fq_release", tally->released, RELEASE_JUDGEMENTS);
+    printf("candidates loaded: %" PRIu64 ", in place of a sheet that does not pass: %" PRIu64 ", passing ones kept out: %" PRIu64 "\n",
+           tally->loaded, tally->loaded_over_late, tally->kept_from_passing);
     printf("slacks with a figure: %" PRIu64 ", least intervals of none: %" PRIu64 ", listed choices: %" PRIu64 "\n",
            tally->figures, tally->least_intervals_of_none, tally->listed_choices);
     printf("lists where the lowest task is late: %" PRIu64 ", other empty lists: %" PRIu64 "\n", tally->lists_with_lowest_late,
@@ -95,8 +101,9 @@ static void print_tally(const struct comparison *comparison, const struct tally 
            tally->long_partial_lists);
     printf("%" PRIu64 " codec sheets, %" PRIu64 " analysis sheets (%" PRIu64 " pass, %" PRIu64 " do not), ",
            tally->codec_sheets, tally->analysis_sheets, tally->passing, tally->late);
-    printf("%" PRIu64 " least intervals, %" PRIu64 " lists (%" PRIu64 " of eight tasks), %" PRIu64 " logs, %" PRIu64 " requests for locks, %" PRIu64 " sheets typed by hand, %" PRIu64 " boxes, ",
-           tally->least_intervals, tally->lists, tally->lists_of_eight, tally->logs, tally->requests, tally->typed, tally->boxes);
+    printf("%" PRIu64 " least intervals, %" PRIu64 " lists (%" PRIu64 " of eight tasks), %" PRIu64 " logs, %" PRIu64 " requests for locks, %" PRIu64 " sheets typed by hand, %" PRIu64 " boxes, %" PRIu64 " pairs, ",
+           tally->least_intervals, tally->lists, tally->lists_of_eight, tally->logs, tally->requests, tally->typed, tally->boxes,
+           tally->pairs);
     printf("%" PRIu64 " checks, %" PRIu64 " differences\n", comparison->checks, comparison->differences);
 }
 
@@ -118,6 +125,13 @@ static bool every_box_run(const struct tally *tally)
     return tally->boxes_too_small > 0 && tally->boxes_refused[SHARED_PROCESSOR] > 0 && tally->boxes_refused[BAD_CORES] > 0;
 }
 
+/* Whether a pair of each judgement was run, and candidates were loaded and kept out. */
+static bool every_pair_run(const struct tally *tally)
+{
+    return tally->released[FQ_DIFFERENT_COUNTS] > 0 && tally->released[FQ_BAD_PLACE] > 0 && tally->released[0] > tally->loaded &&
+           tally->loaded_over_late > 0 && tally->kept_from_passing > 0;
+}
+
 /* Whether at least one sheet of each kind, and a log and a record of each judgement, was run. */
 static bool every_kind_run(const struct tally *tally)
 {
@@ -131,7 +145,7 @@ static bool every_kind_run(const struct tally *tally)
            tally->lists_of_eight > 0 && tally->lists_with_lowest_late > 0 && tally->long_partial_lists > 0 &&
            tally->lists_with_lowest_late < tally->lists && tally->replayed[0] > 0 && tally->accepted > 0 && tally->differing > 0 &&
            every_lock_run(tally) && tally->unchanged > 0 && tally->unchanged < tally->mended[0] && tally->mended[0] < tally->typed &&
-           every_box_run(tally);
+           every_box_run(tally) && every_pair_run(tally);
 }
 
 /* Runs all rounds, prints what was found, and gives the status of the program. */
@@ -157,6 +171,9 @@ static int run(struct comparison *comparison)
     }
     for (uint64_t round = 0; round < comparison->count / CODEC_SHEETS_FOR_BOX; round++) {
         cores_round(comparison, &tally, round);
+    }
+    for (uint64_t round = 0; round < comparison->count / CODEC_SHEETS_FOR_PAIR; round++) {
+        release_round(comparison, &tally, round);
     }
     print_tally(comparison, &tally);
     if (!every_kind_run(&tally)) {

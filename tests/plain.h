@@ -36,6 +36,8 @@ void plain_show(const uint8_t *sheet, size_t len, uint8_t *record, size_t record
 int64_t plain_grant(uint32_t period, uint8_t count, const uint32_t *starts, size_t starts_len, const uint8_t *uses,
                     size_t uses_len, const uint8_t *resources, size_t resources_len, uint8_t priority, uint64_t time,
                     uint8_t resource, uint32_t length, int64_t *margin, size_t margin_len);
+int64_t plain_release(const uint8_t *in_use, size_t in_use_len, const uint8_t *candidate, size_t candidate_len,
+                      uint8_t protected_places);
 
 /* How many jobs a log misses, or minus its refusal; of each record, by place, the most ticks that a finished job took from its release. */
 int64_t plain_missed(const uint8_t *sheet, size_t len, const uint8_t *log, size_t log_len, uint64_t *longest);

@@ -35,6 +35,7 @@ enum refusal {
     INSIDE_A_JOB = 21,
     HELD = 22,
     BAD_CORES = 23,
+    DIFFERENT_COUNTS = 24,
     BAD_REQUEST = 25
 };
 

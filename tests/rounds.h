@@ -1,14 +1,22 @@
 /*
  * The kinds of rounds of the comparison: codec rounds, which read, write and damage sheets, analysis rounds,
  * which ask for times, verdicts, intervals and choices, replay rounds, which replay logs and check records, lock rounds,
- * which ask for locks, mend rounds, which mend sheets typed by hand, and rounds of boxes with several cores.
+ * which ask for locks, mend rounds, which mend sheets typed by hand, rounds of boxes with several cores, and release
+ * rounds, which ask which of two sheets to load.
  */
 #ifndef ROUNDS_H
 #define ROUNDS_H
 
 #include "checks.h"
 
-enum { JUDGEMENTS = 19, REPLAY_JUDGEMENTS = 20, LOCK_JUDGEMENTS = 26, CORES_JUDGEMENTS = 24, MOST_CORES = 4 };
+enum {
+    JUDGEMENTS = 19,
+    REPLAY_JUDGEMENTS = 20,
+    LOCK_JUDGEMENTS = 26,
+    CORES_JUDGEMENTS = 24,
+    RELEASE_JUDGEMENTS = 25,
+    MOST_CORES = 4
+};
 
 /* What was run so far, by kind. */
 struct tally {
@@ -47,6 +55,11 @@ struct tally {
     uint64_t boxes_refused[CORES_JUDGEMENTS];
     uint64_t cores_needed[MOST_CORES + 1];
     uint64_t boxes_too_small;
+    uint64_t pairs;
+    uint64_t released[RELEASE_JUDGEMENTS];
+    uint64_t loaded;
+    uint64_t loaded_over_late;
+    uint64_t kept_from_passing;
 };
 
 /* Checks the least intervals at the far end and the most changes of a sheet, which random sheets do not reach, and sheets of every length. */
@@ -72,5 +85,8 @@ void mend_round(struct comparison *comparison, struct tally *tally, uint64_t rou
 
 /* Runs one round of a box with several cores. */
 void cores_round(struct comparison *comparison, struct tally *tally, uint64_t round);
+
+/* Runs one release round. */
+void release_round(struct comparison *comparison, struct tally *tally, uint64_t round);
 
 #endif

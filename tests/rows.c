@@ -255,6 +255,25 @@ static void answer_mend(struct row *row)
     add_word(row, list);
 }
 
+/* IN-USE CANDIDATE PROTECTED: the refusal, and which of the two is to be loaded. */
+static void answer_release(struct row *row)
+{
+    static struct bytes in_use, candidate, places;
+    read_bytes(row->word[0], &in_use);
+    read_bytes(row->word[1], &candidate);
+    read_bytes(row->word[2], &places);
+    if (places.length != 1) {
+        fprintf(stderr, "not one byte of protected places\n");
+        exit(2);
+    }
+    int64_t answer = fq_release(in_use.at, in_use.length, candidate.at, candidate.length, places.at[0]);
+    if (answer < 0) {
+        add_number(row, -answer);
+    } else {
+        add_word(row, answer == 1 ? "0 candidate" : "0 in-use");
+    }
+}
+
 /* What answers the rows of a file, by the end of its name, and how many words are asked. */
 static const struct kind {
     const char *name;
@@ -269,6 +288,7 @@ static const struct kind {
     {"ask-11-mend.txt", 1, answer_mend},
     {"ask-12-runs.txt", 2, answer_run},
     {"ask-13-cores.txt", 2, answer_cores},
+    {"ask-14-release.txt", 3, answer_release},
 };
 
 /* The kind of a file. */

@@ -38,7 +38,7 @@ use Rattle.fidhaqooban.specs.Numbers.{answerOf, tableFrom, givenTable, t
 use Rattle.replay.specs.Machines.{machineOf}
 use Rattle.replay.specs.Shown.{matching}
 use Rattle.replay.specs.Answers.{replayAnswer, checkRefusal}
-use Rattle.fidhaqooban.specs.Answers.{writeSharedNumber, writeSharedLeft, writeNumber, writeLeft, rewriteRefusal, rewriteNumber, rewriteLeft, recordNumber, responseNumber, slackRefusal, slackNumber, slackLeft, verdictNumber, intervalNumber, firstNumber, nextRefusal, nextNumber, listingRefusal, listNumber, listLeft, replayedRefusal, replayNumber, replayLeft, checkNumber, mendingRefusal, mendNumber, mendLeft, mendListed, firstOut, coresRefusal, coresNumber}
+use Rattle.fidhaqooban.specs.Answers.{writeSharedNumber, writeSharedLeft, writeNumber, writeLeft, rewriteRefusal, rewriteNumber, rewriteLeft, recordNumber, responseNumber, slackRefusal, slackNumber, slackLeft, verdictNumber, intervalNumber, firstNumber, nextRefusal, nextNumber, listingRefusal, listNumber, listLeft, replayedRefusal, replayNumber, replayLeft, checkNumber, mendingRefusal, mendNumber, mendLeft, mendListed, firstOut, coresRefusal, coresNumber, releaseNumber}
 use Rattle.locks.specs.declared.Starts.{Starts}
 use Rattle.locks.specs.declared.Resource.{Resource}
 use Rattle.locks.specs.declared.Request.{Request}
@@ -46,6 +46,7 @@ use Rattle.locks.specs.declared.Granting.{Granting}
 use Rattle.locks.specs.Rules.{grantRefusal}
 use Rattle.locks.specs.Answers.{grantAnswer}
 use Rattle.locks.proofs.Order.{grant-in-order}
+use Rattle.release.specs.Answers.{decision}
 use Rattle.fidhaqooban.specs.Locking.{lockRefusal, lockNumber, lockLeft}
 use Rattle.fidhaqooban.proofs.Lent.{last-11}
 
@@ -265,3 +266,10 @@ four-numbers list k below =
 pub cores-said : (sheet : List ℕ) (number : ℕ) (out : List ℕ) → Said (coresRefusal sheet number out) (firstOut sheet number) (coresNumber sheet number out)
 unfolding coresNumber
 cores-said sheet number out = said _ _
+
+-- `fq_release`: "1 load the candidate, 0 keep the one in use", or minus the refusal
+pub release-said : (inUse candidate : List ℕ) (protected : ℕ)
+    → (decision inUse candidate protected .loads ≡ true → Said (decision inUse candidate protected .refusal) 1 (releaseNumber inUse candidate protected))
+    × (decision inUse candidate protected .loads ≡ false → Said (decision inUse candidate protected .refusal) 0 (releaseNumber inUse candidate protected))
+unfolding releaseNumber
+release-said inUse candidate protected = (λ yes-it. simp yes-it (said _ _), λ no-it. simp no-it (said _ _))

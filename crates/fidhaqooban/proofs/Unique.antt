@@ -5,7 +5,7 @@ use mathlib.Core.List.{List}
 use lib.IntN.{ℤ}
 use Rattle.sheet.specs.Rules.{sheetRefusal}
 use Rattle.sheet.proofs.Unique.{both}
-use Rattle.fidhaqooban.specs.Answers.{writeSharedNumber, writeSharedLeft, writeNumber, writeLeft, rewriteNumber, rewriteLeft, recordNumber, responseNumber, slackNumber, slackLeft, verdictNumber, intervalNumber, nextNumber, listNumber, listLeft, replayNumber, replayLeft, checkNumber, mendNumber, mendLeft, mendListed, coresNumber, coresLeft}
+use Rattle.fidhaqooban.specs.Answers.{writeSharedNumber, writeSharedLeft, writeNumber, writeLeft, rewriteNumber, rewriteLeft, recordNumber, responseNumber, slackNumber, slackLeft, verdictNumber, intervalNumber, nextNumber, listNumber, listLeft, replayNumber, replayLeft, checkNumber, mendNumber, mendLeft, mendListed, coresNumber, coresLeft, releaseNumber}
 use Rattle.locks.specs.declared.Request.{Request}
 use Rattle.fidhaqooban.specs.Locking.{grantingOf, lockNumber, lockLeft}
 
@@ -69,3 +69,6 @@ fq-mend-unique sheet out changes a b left left′ listed listed′ p q = (both (
 pub fq-cores-unique : (sheet : List ℕ) (number : ℕ) (out : List ℕ) (a b : ℤ) (left left′ : List ℕ)
     → (a ≡ coresNumber sheet number out) × (left ≡ coresLeft sheet number out) → (b ≡ coresNumber sheet number out) × (left′ ≡ coresLeft sheet number out) → (a ≡ b) × (left ≡ left′)
 fq-cores-unique sheet number out a b left left′ p q = (both (p .0) (q .0), both (p .1) (q .1))
+
+pub fq-release-unique : (inUse candidate : List ℕ) (protected : ℕ) (a b : ℤ) → a ≡ releaseNumber inUse candidate protected → b ≡ releaseNumber inUse candidate protected → a ≡ b
+fq-release-unique inUse candidate protected a b = both

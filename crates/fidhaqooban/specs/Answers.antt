@@ -21,6 +21,7 @@ use Rattle.mend.specs.Mended.{mended}
 use Rattle.mend.specs.Changes.{changesOf}
 use Rattle.cores.specs.FirstFit.{fitsNone}
 use Rattle.cores.specs.Answers.{boxRefusal, coresOf}
+use Rattle.release.specs.Answers.{decision}
 use Rattle.fidhaqooban.specs.Numbers.{answerOf, givenTable, timeOf, figuresOf, figureIn, entriesOf, choiceOf, countNumbers, changesNumbers}
 
 -- `fq_write_shared`: "bytes written"
@@ -156,3 +157,7 @@ coresNumber sheet number out = answerOf (coresRefusal sheet number out) (firstOu
 unfoldable pub coresLeft : List ℕ → ℕ → List ℕ → List ℕ
 coresLeft sheet number out =
     cond (eqb (coresRefusal sheet number out) 0 && eqb (firstOut sheet number) 0) (take (countOf sheet) (coresOf (ownTasks (tableOf sheet)) number) ++ drop (countOf sheet) out) out
+
+-- `fq_release`: "1 load the candidate, 0 keep the one in use", or minus the refusal
+unfoldable pub releaseNumber : List ℕ → List ℕ → ℕ → ℤ
+releaseNumber inUse candidate protected = answerOf (decision inUse candidate protected .refusal) (cond (decision inUse candidate protected .loads) 1 0)

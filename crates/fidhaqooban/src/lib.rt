@@ -2,7 +2,7 @@
 // Each function is thin: it reads the sheet, asks the crate that answers, and turns the answer into a number.
 ghost use mathlib.Core.Path.{_≡_};
 ghost use Rattle.sheet.specs.Rules.{sheetRefusal};
-ghost use Rattle.fidhaqooban.specs.Answers.{writeSharedNumber, writeSharedLeft, writeNumber, writeLeft, rewriteNumber, rewriteLeft, recordNumber, responseNumber, slackNumber, slackLeft, verdictNumber, intervalNumber, nextNumber, listNumber, listLeft, replayNumber, replayLeft, checkNumber, mendNumber, mendLeft, mendListed, coresNumber, coresLeft};
+ghost use Rattle.fidhaqooban.specs.Answers.{writeSharedNumber, writeSharedLeft, writeNumber, writeLeft, rewriteNumber, rewriteLeft, recordNumber, responseNumber, slackNumber, slackLeft, verdictNumber, intervalNumber, nextNumber, listNumber, listLeft, replayNumber, replayLeft, checkNumber, mendNumber, mendLeft, mendListed, coresNumber, coresLeft, releaseNumber};
 ghost use Rattle.fidhaqooban.specs.Locking.{givenRequest, grantingOf, lockNumber, lockLeft};
 use analysis::Interval;
 use choices::Arrival;
@@ -290,4 +290,13 @@ pub extern "C" fn fq_cores(sheet: &[u8], number: u8, out: &mut [u8]) -> i64
             numbers::answer(0, 0)
         }
     }
+}
+
+// Whether the candidate is to be loaded in place of the sheet in use: 1, or 0 to keep the one in use.
+#[no_mangle]
+pub extern "C" fn fq_release(in_use: &[u8], candidate: &[u8], protected_places: u8) -> i64
+    ensures { λ r. ⌜ r ≡ releaseNumber (now («in_use» .entry)) (now (candidate .entry)) «protected_places» ⌝ }
+{
+    let decision = release::decide(in_use, candidate, protected_places);
+    numbers::answer(decision.refusal, decision.loads as usize)
 }
