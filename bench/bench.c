@@ -1,5 +1,5 @@
 /*
- * Measures the library against the climbing baseline and prints four tables in Markdown. First every
+ * Measures the library against the climbing baseline and prints five tables in Markdown. First every
  * measured call is made once on every side, and any difference in answers or bytes ends the program with
  * status 1; then the sides are timed in turn, and the shortest time of each is shown.
  * The one argument is a sentence on how the program was built and is run, which is printed on top.
@@ -71,9 +71,10 @@ struct effort {
     double all;
 };
 
-/* One table: its rows, and how many of the sides it has, the first ones. */
+/* One table: its sides, by which calls they are asked, its rows, and how many of the sides it has, the first ones. */
 struct table {
     const char *title;
+    const struct side *side;
     struct row *rows;
     size_t count;
     int sides;
@@ -88,6 +89,15 @@ static const struct side sides[SIDES] = {
      bounding_next, bounding_list, climbing_replay},
     {"climbing C, lowest first", climbing_judge, climbing_rewrite, climbing_response, climbing_verdict,
      climbing_least_interval, lowest_first_next, lowest_first_list, climbing_replay},
+};
+
+/* The first three with the assured times and choices in the place of the response times and the passing choices. */
+static const struct side assured_sides[LOWEST_FIRST] = {
+    {"library", fq_judge, fq_rewrite, fq_assured_response, fq_verdict, fq_least_interval, fq_assured_next, fq_assured_list, fq_replay},
+    {"climbing C", climbing_judge, climbing_rewrite, climbing_assured_response, climbing_verdict, climbing_least_interval,
+     climbing_assured_next, climbing_assured_list, climbing_replay},
+    {"C with bounds", climbing_judge, climbing_rewrite, climbing_assured_response, climbing_verdict, bounding_least_interval,
+     bounding_assured_next, bounding_assured_list, climbing_replay},
 };
 
 static uint8_t outputs[SIDES][FQ_LIST_BYTES];
@@ -269,20 +279,40 @@ static struct row slow_rows[] = {
      .reason = "the same sheet: one call goes through all 40320 choices"},
 };
 
+/* The fifth table, of the assured sides. */
+static struct row assured_rows[] = {
+    {.name = "one assured time, of the lowest of 8", .use = use_response, .sheet = &everyday},
+    {.name = "all 8 assured times", .use = use_responses, .sheet = &everyday},
+    {.name = "list of 8 tasks, all 40320 assured", .use = use_list, .sheet = &everyday},
+    {.name = "list of 8 tasks, 21504 assured", .use = use_list, .sheet = &everyday, .place = 3, .deadline = 169},
+    {.name = "list of 8 tasks, none: second record has no time", .use = use_list, .sheet = &everyday, .place = 1,
+     .deadline = 115},
+    {.name = "list of 8 tasks, none: last record has no time", .use = use_list, .sheet = &everyday, .place = 7, .deadline = 29},
+    {.name = "list of 8 tasks, none: lowest in the last record", .use = use_list, .sheet = &lowest_late_last},
+    {.name = "list of 6 tasks, none: slow steps", .use = use_list, .sheet = &slow_steps},
+    {.name = "one step of the walk of 8 tasks", .use = use_next, .sheet = &everyday},
+    {.name = "one step of the walk, end: slow choices", .use = use_next, .sheet = &slow_choices},
+    {.name = "walk through all 720 of 6 tasks", .use = use_walk, .sheet = &everyday, .count = 6},
+};
+
 static struct row refused_rows[] = {{.name = "refused calls", .use = use_refused, .sheet = &everyday}};
 
 /* How the rows of a table are timed. */
 #define USUAL {3, 0.002, 0.4}
 #define SLOW {1, 0.002, 0.2}
 
-static const struct table refused_calls = {"Refused calls", refused_rows, LENGTH(refused_rows), SIDES, USUAL};
+static const struct table refused_calls[] = {
+    {"Refused calls", sides, refused_rows, LENGTH(refused_rows), SIDES, USUAL},
+    {"Refused calls for assured choices", assured_sides, refused_rows, LENGTH(refused_rows), LOWEST_FIRST, USUAL},
+};
 
 static const struct table tables[] = {
-    {"The calls", main_rows, LENGTH(main_rows), LOWEST_FIRST, USUAL},
-    {"Growth with the number of tasks n", growth_rows, LENGTH(growth_rows), LOWEST_FIRST, USUAL},
-    {"The lowest task of 8 is late", lowest_rows, LENGTH(lowest_rows), SIDES, USUAL},
-    {"Slow sheets (judging and rewriting are slowest on any good sheet of 8)", slow_rows, LENGTH(slow_rows),
+    {"The calls", sides, main_rows, LENGTH(main_rows), LOWEST_FIRST, USUAL},
+    {"Growth with the number of tasks n", sides, growth_rows, LENGTH(growth_rows), LOWEST_FIRST, USUAL},
+    {"The lowest task of 8 is late", sides, lowest_rows, LENGTH(lowest_rows), SIDES, USUAL},
+    {"Slow sheets (judging and rewriting are slowest on any good sheet of 8)", sides, slow_rows, LENGTH(slow_rows),
      LOWEST_FIRST, SLOW},
+    {"Assured times and choices", assured_sides, assured_rows, LENGTH(assured_rows), LOWEST_FIRST, USUAL},
 };
 
 /* The present time in seconds. */
@@ -314,7 +344,7 @@ static struct packed pack(const struct row *row)
 }
 
 /* Makes the calls of each row of a table once on each of its sides; a difference ends the program. */
-static void check(const struct table *table)
+static void check_table(const struct table *table)
 {
     for (struct row *row = table->rows; row < table->rows + table->count; row++) {
         struct packed sheet = pack(row);
@@ -323,7 +353,7 @@ static void check(const struct table *table)
         for (int side = 0; side < table->sides; side++) {
             memset(outputs[side], UNTOUCHED, FQ_LIST_BYTES);
             double start = now();
-            answers[side] = row->use(&sides[side], &sheet, outputs[side]);
+            answers[side] = row->use(&table->side[side], &sheet, outputs[side]);
             row->seconds[side] = now() - start;
             if (answers[side] != answers[LIBRARY] || memcmp(outputs[side], outputs[LIBRARY], FQ_LIST_BYTES) != 0) {
                 fprintf(stderr, "the sides differ on \"%s\"\n", row->name);
@@ -333,9 +363,18 @@ static void check(const struct table *table)
     }
 }
 
-/* Times the sides of a row in turn, and keeps the shortest time of each, which sets how often to call next. */
-static void measure(struct row *row, int count, const struct effort *effort)
+/* Makes the calls of each of so many tables. */
+static void check(const struct table *some, size_t count)
 {
+    for (size_t index = 0; index < count; index++)
+        check_table(&some[index]);
+}
+
+/* Times the sides of a row of a table in turn, and keeps the shortest time of each, which sets how often to call next. */
+static void measure(const struct table *table, struct row *row)
+{
+    const struct effort *effort = &table->effort;
+    int count = table->sides;
     struct packed sheet = pack(row);
     double end = now() + effort->all;
 
@@ -345,7 +384,7 @@ static void measure(struct row *row, int count, const struct effort *effort)
         double start = now();
 
         for (long call = 0; call < calls; call++)
-            row->use(&sides[side], &sheet, outputs[side]);
+            row->use(&table->side[side], &sheet, outputs[side]);
         double seconds = (now() - start) / (double)calls;
         if (seconds < row->seconds[side])
             row->seconds[side] = seconds;
@@ -370,9 +409,9 @@ static void print_head(const struct table *table)
 {
     int reasons = table->rows->reason != NULL;
 
-    printf("\n## %s\n\n| Call | %s |", table->title, sides[LIBRARY].name);
+    printf("\n## %s\n\n| Call | %s |", table->title, table->side[LIBRARY].name);
     for (int side = CLIMBING; side < table->sides; side++)
-        printf(" %s | ratio |", sides[side].name);
+        printf(" %s | ratio |", table->side[side].name);
     printf("%s\n|---|---:|", reasons ? " why it is slow |" : "");
     for (int side = CLIMBING; side < table->sides; side++)
         printf("---:|---:|");
@@ -384,7 +423,7 @@ static void print_table(const struct table *table)
 {
     print_head(table);
     for (struct row *row = table->rows; row < table->rows + table->count; row++) {
-        measure(row, table->sides, &table->effort);
+        measure(table, row);
         printf("| %s |", row->name);
         print_time(row->seconds[LIBRARY]);
         for (int side = CLIMBING; side < table->sides; side++) {
@@ -407,9 +446,8 @@ int main(int argc, char **argv)
         return 2;
     }
     fill_log();
-    check(&refused_calls);
-    for (size_t index = 0; index < LENGTH(tables); index++)
-        check(&tables[index]);
+    check(refused_calls, LENGTH(refused_calls));
+    check(tables, LENGTH(tables));
     printf("%s Times are for one call; all sides gave the same answers and bytes.\n", argv[1]);
     for (size_t index = 0; index < LENGTH(tables); index++)
         print_table(&tables[index]);

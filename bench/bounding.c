@@ -6,9 +6,18 @@
 #define FEW 8
 #define FEW_RECORDS 4
 
-/* For each priority, one more than the largest backup that its task bears: as M at 0, as N at each fault priority. */
+/* For each priority, one more than the largest backup that its task bears: as M at 0, where the rule has one, as N at each fault priority. */
 struct bounds {
     uint32_t limits[LEVELS][LEVELS];
+};
+
+/* What a walk and a list go by: how a sheet is read, what a choice has to hold, the first level of the bounds, what a task bears at a level, and whether a choice is within the bounds. */
+struct rule {
+    reading *read;
+    holding *holds;
+    unsigned first_level;
+    int (*bears)(const struct table *, unsigned, unsigned, uint32_t);
+    int (*is_within)(const struct table *, const struct bounds *);
 };
 
 /* Whether a task is on time with a largest backup. */
@@ -17,8 +26,14 @@ static int bears(const struct table *table, unsigned own, unsigned level, uint32
     return level == 0 ? elsewhere_with(table, own, backup) != 0 : itself_with(table, own, level, backup) != 0;
 }
 
+/* Whether a task has an assured time with a largest backup. */
+static int bears_low(const struct table *table, unsigned own, unsigned level, uint32_t backup)
+{
+    return low_with(table, own, level, backup) != 0;
+}
+
 /* The limit of a task: the largest backup is tried first, and what is below the limit so far needs no search. */
-static uint32_t find_limit(const struct table *table, unsigned own, unsigned level)
+static uint32_t find_limit(const struct rule *rule, const struct table *table, unsigned own, unsigned level)
 {
     uint32_t largest = 0;
     uint32_t limit = 0;
@@ -26,29 +41,29 @@ static uint32_t find_limit(const struct table *table, unsigned own, unsigned lev
     for (unsigned priority = 1; priority <= table->count; priority++)
         if (table->records[priority].backup > largest)
             largest = table->records[priority].backup;
-    if (bears(table, own, level, largest))
+    if (rule->bears(table, own, level, largest))
         return largest + 1;
     for (unsigned priority = 1; priority <= table->count; priority++) {
         uint32_t backup = table->records[priority].backup;
-        if (limit <= backup && bears(table, own, level, backup))
+        if (limit <= backup && rule->bears(table, own, level, backup))
             limit = backup + 1;
     }
-    return limit == 0 && bears(table, own, level, 0) ? 1 : limit;
+    return limit == 0 && rule->bears(table, own, level, 0) ? 1 : limit;
 }
 
 /* Every limit. */
-static void find_bounds(const struct table *table, struct bounds *bounds)
+static void find_bounds(const struct rule *rule, const struct table *table, struct bounds *bounds)
 {
     for (unsigned own = 1; own <= table->count; own++)
-        for (unsigned level = 0; level <= own; level++)
-            bounds->limits[own][level] = find_limit(table, own, level);
+        for (unsigned level = rule->first_level; level <= own; level++)
+            bounds->limits[own][level] = find_limit(rule, table, own, level);
 }
 
-/* Whether some task misses its own backup at its own priority, and so is late under every choice. */
-static int is_hopeless(const struct table *table)
+/* Whether some task misses its own backup at its own priority, and so has no time under any choice. */
+static int is_hopeless(const struct rule *rule, const struct table *table)
 {
     for (unsigned own = table->count; own > 0; own--)
-        if (!bears(table, own, own, table->records[own].backup))
+        if (!rule->bears(table, own, own, table->records[own].backup))
             return 1;
     return 0;
 }
@@ -73,14 +88,39 @@ static int is_within(const struct table *table, const struct bounds *bounds)
     return 1;
 }
 
-/* Writes the passing choices, or only counts them where out is null. */
-static size_t list_within(struct table *table, const struct bounds *bounds, uint8_t *out)
+/* Whether each task's N of the assured times is below its limit: of the tasks above it at its level too, of those below it above that level only. */
+static int is_within_low(const struct table *table, const struct bounds *bounds)
+{
+    uint32_t tops[LEVELS + 1] = {0};
+
+    for (unsigned own = table->count; own > 0; own--) {
+        const struct record *record = &table->records[own];
+        unsigned level = record->fault_priority;
+        uint32_t limit = bounds->limits[own][level];
+        if (record->backup >= limit || tops[level] >= limit)
+            return 0;
+        for (; level > 0 && tops[level] < record->backup; level--)
+            tops[level] = record->backup;
+    }
+    for (unsigned own = table->count; own > 0; own--) {
+        unsigned level = table->records[own].fault_priority;
+        if (tops[level + 1] >= bounds->limits[own][level])
+            return 0;
+    }
+    return 1;
+}
+
+static const struct rule passing = {read_sheet, passes, 0, bears, is_within};
+static const struct rule assured = {read_whole, is_assured, 1, bears_low, is_within_low};
+
+/* Writes the choices that hold, or only counts them where out is null. */
+static size_t list_within(const struct rule *rule, struct table *table, const struct bounds *bounds, uint8_t *out)
 {
     size_t entries = 0;
 
     set_first(table);
     do {
-        if (!is_within(table, bounds))
+        if (!rule->is_within(table, bounds))
             continue;
         if (out != NULL) {
             uint32_t choice = pack_choice(table);
@@ -112,12 +152,12 @@ int64_t bounding_least_interval(const uint8_t *sheet, size_t len)
     return holds > MOST_INTERVAL ? 0 : holds;
 }
 
-/* The next passing choice after any allowed one, 0 at the end, or minus the refusal; a few are tried before bounds are found. */
-int64_t bounding_next(const uint8_t *sheet, size_t len, uint32_t after)
+/* The next choice that holds after any allowed one, 0 at the end, or minus the refusal; a few are tried before bounds are found. */
+static int64_t next_choice(const struct rule *rule, const uint8_t *sheet, size_t len, uint32_t after)
 {
     struct table table;
     struct bounds bounds;
-    uint8_t refusal = read_sheet(sheet, len, &table);
+    uint8_t refusal = rule->read(sheet, len, &table);
     unsigned few = FEW;
     int left = 1;
 
@@ -131,32 +171,52 @@ int64_t bounding_next(const uint8_t *sheet, size_t len, uint32_t after)
         left = set_following(&table);
     if (response(&table, LOWEST) == 0)
         return 0;
-    for (; left && few > 0 && !passes(&table); few--)
+    for (; left && few > 0 && !rule->holds(&table); few--)
         left = set_following(&table);
     if (left && few == 0) {
-        if (is_hopeless(&table))
+        if (is_hopeless(rule, &table))
             return 0;
-        find_bounds(&table, &bounds);
-        while (left && !is_within(&table, &bounds))
+        find_bounds(rule, &table, &bounds);
+        while (left && !rule->is_within(&table, &bounds))
             left = set_following(&table);
     }
     return left ? pack_choice(&table) : 0;
 }
 
-/* Writes every passing choice, and answers how many, or minus the refusal. */
-int64_t bounding_list(const uint8_t *sheet, size_t len, uint8_t *out, size_t out_len)
+/* Writes every choice that holds, and answers how many, or minus the refusal. */
+static int64_t list_sheet(const struct rule *rule, const uint8_t *sheet, size_t len, uint8_t *out, size_t out_len)
 {
     struct table table;
     struct bounds bounds;
-    uint8_t refusal = read_sheet(sheet, len, &table);
+    uint8_t refusal = rule->read(sheet, len, &table);
 
     if (refusal != 0)
         return -refusal;
-    if (response(&table, LOWEST) == 0 || (table.count > FEW_RECORDS && is_hopeless(&table)))
+    if (response(&table, LOWEST) == 0 || (table.count > FEW_RECORDS && is_hopeless(rule, &table)))
         return 0;
-    find_bounds(&table, &bounds);
+    find_bounds(rule, &table, &bounds);
     if (out_len < ENTRY_BYTES * count_choices(table.count)
-        && out_len < ENTRY_BYTES * list_within(&table, &bounds, NULL))
+        && out_len < ENTRY_BYTES * list_within(rule, &table, &bounds, NULL))
         return -REFUSED_ROOM;
-    return (int64_t)list_within(&table, &bounds, out);
+    return (int64_t)list_within(rule, &table, &bounds, out);
+}
+
+int64_t bounding_next(const uint8_t *sheet, size_t len, uint32_t after)
+{
+    return next_choice(&passing, sheet, len, after);
+}
+
+int64_t bounding_list(const uint8_t *sheet, size_t len, uint8_t *out, size_t out_len)
+{
+    return list_sheet(&passing, sheet, len, out, out_len);
+}
+
+int64_t bounding_assured_next(const uint8_t *sheet, size_t len, uint32_t after)
+{
+    return next_choice(&assured, sheet, len, after);
+}
+
+int64_t bounding_assured_list(const uint8_t *sheet, size_t len, uint8_t *out, size_t out_len)
+{
+    return list_sheet(&assured, sheet, len, out, out_len);
 }

@@ -11,5 +11,7 @@
 int64_t bounding_least_interval(const uint8_t *sheet, size_t len);
 int64_t bounding_next(const uint8_t *sheet, size_t len, uint32_t after);
 int64_t bounding_list(const uint8_t *sheet, size_t len, uint8_t *out, size_t out_len);
+int64_t bounding_assured_next(const uint8_t *sheet, size_t len, uint32_t after);
+int64_t bounding_assured_list(const uint8_t *sheet, size_t len, uint8_t *out, size_t out_len);
 
 #endif

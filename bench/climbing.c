@@ -80,6 +80,50 @@ uint32_t itself_with(const struct table *table, unsigned own, unsigned level, ui
     return climb(table, &burden, (uint32_t)record->cost + record->backup, record->deadline);
 }
 
+uint32_t low_with(const struct table *table, unsigned own, unsigned level, uint32_t backup)
+{
+    const struct record *record = &table->records[own];
+    struct burden burden = {record->cost, level, own, backup};
+
+    return climb(table, &burden, record->cost, record->deadline);
+}
+
+/* The largest backup that goes before a task's own, or is it; no priority below the task's fault priority can have it. */
+static uint32_t backup_ahead(const struct table *table, unsigned own)
+{
+    unsigned level = table->records[own].fault_priority;
+    uint32_t largest = table->records[own].backup;
+
+    for (unsigned priority = level; priority <= table->count; priority++) {
+        const struct record *record = &table->records[priority];
+        unsigned least = priority > own ? level : level + 1;
+        if (record->fault_priority >= least && record->backup > largest)
+            largest = record->backup;
+    }
+    return largest;
+}
+
+/* The assured time of a task, or 0 where it has none. */
+static uint32_t assured_time(const struct table *table, unsigned own)
+{
+    return low_with(table, own, table->records[own].fault_priority, backup_ahead(table, own));
+}
+
+int is_assured(const struct table *table)
+{
+    for (unsigned place = 0; place < table->count; place++)
+        if (assured_time(table, table->priority_at[place]) == 0)
+            return 0;
+    return 1;
+}
+
+uint8_t read_whole(const uint8_t *sheet, size_t len, struct table *table)
+{
+    uint8_t refusal = read_sheet(sheet, len, table);
+
+    return refusal == 0 && table->share < table->round ? REFUSED_SHARED : refusal;
+}
+
 /* The time of a task while faults strike others only, or 0 where it is late. */
 static uint32_t struck_elsewhere(const struct table *table, unsigned own)
 {
@@ -151,14 +195,24 @@ int set_choice(struct table *table, uint32_t choice)
     return pack_choice(table) == choice;
 }
 
-/* Writes the passing choices, or only counts them where out is null. */
-static size_t list_choices(struct table *table, uint8_t *out)
+/* What a walk and a list go by: how a sheet is read, what a choice has to hold, and whether the lowest task is asked first. */
+struct rule {
+    reading *read;
+    holding *holds;
+    int is_lowest_first;
+};
+
+static const struct rule passing = {read_sheet, passes, 0}, passing_lowest_first = {read_sheet, passes, 1};
+static const struct rule assured = {read_whole, is_assured, 0};
+
+/* Writes the choices that hold, or only counts them where out is null. */
+static size_t list_choices(struct table *table, holding *holds, uint8_t *out)
 {
     size_t entries = 0;
 
     set_first(table);
     do {
-        if (!passes(table))
+        if (!holds(table))
             continue;
         if (out != NULL) {
             uint32_t choice = pack_choice(table);
@@ -201,17 +255,27 @@ int64_t climbing_rewrite(const uint8_t *sheet, size_t len, uint8_t *out, size_t 
     return (int64_t)len;
 }
 
-/* The response time of the record at a place, 0 where it is late, or minus the refusal. */
-int64_t climbing_response(const uint8_t *sheet, size_t len, size_t place)
+/* The time of the record at a place, 0 where it has none, or minus the refusal. */
+static int64_t time_at(reading *read, uint32_t (*time)(const struct table *, unsigned), const uint8_t *sheet, size_t len, size_t place)
 {
     struct table table;
-    uint8_t refusal = read_sheet(sheet, len, &table);
+    uint8_t refusal = read(sheet, len, &table);
 
     if (refusal != 0)
         return -refusal;
     if (place >= table.count)
         return -REFUSED_PLACE;
-    return response(&table, table.priority_at[place]);
+    return time(&table, table.priority_at[place]);
+}
+
+int64_t climbing_response(const uint8_t *sheet, size_t len, size_t place)
+{
+    return time_at(read_sheet, response, sheet, len, place);
+}
+
+int64_t climbing_assured_response(const uint8_t *sheet, size_t len, size_t place)
+{
+    return time_at(read_whole, assured_time, sheet, len, place);
 }
 
 /* 1 where the sheet passes, 0 where it does not, or minus the refusal. */
@@ -237,11 +301,11 @@ int64_t climbing_least_interval(const uint8_t *sheet, size_t len)
     return 0;
 }
 
-/* The next passing choice after any allowed one, 0 at the end, or minus the refusal. */
-static int64_t next_choice(const uint8_t *sheet, size_t len, uint32_t after, int is_lowest_first)
+/* The next choice that holds after any allowed one, 0 at the end, or minus the refusal. */
+static int64_t next_choice(const struct rule *rule, const uint8_t *sheet, size_t len, uint32_t after)
 {
     struct table table;
-    uint8_t refusal = read_sheet(sheet, len, &table);
+    uint8_t refusal = rule->read(sheet, len, &table);
     int left = 1;
 
     if (refusal != 0)
@@ -252,48 +316,58 @@ static int64_t next_choice(const uint8_t *sheet, size_t len, uint32_t after, int
         return -REFUSED_CHOICE;
     else
         left = set_following(&table);
-    if (is_lowest_first && response(&table, LOWEST) == 0)
+    if (rule->is_lowest_first && response(&table, LOWEST) == 0)
         return 0;
-    while (left && !passes(&table))
+    while (left && !rule->holds(&table))
         left = set_following(&table);
     return left ? pack_choice(&table) : 0;
 }
 
 /*
- * Writes every passing choice, and answers how many, or minus the refusal. Where there is room for all
+ * Writes every choice that holds, and answers how many, or minus the refusal. Where there is room for all
  * choices nothing can be refused any more, so they are counted first only where there is less.
  */
-static int64_t list_sheet(const uint8_t *sheet, size_t len, uint8_t *out, size_t out_len, int is_lowest_first)
+static int64_t list_sheet(const struct rule *rule, const uint8_t *sheet, size_t len, uint8_t *out, size_t out_len)
 {
     struct table table;
-    uint8_t refusal = read_sheet(sheet, len, &table);
+    uint8_t refusal = rule->read(sheet, len, &table);
 
     if (refusal != 0)
         return -refusal;
-    if (is_lowest_first && response(&table, LOWEST) == 0)
+    if (rule->is_lowest_first && response(&table, LOWEST) == 0)
         return 0;
     if (out_len < ENTRY_BYTES * count_choices(table.count)
-        && out_len < ENTRY_BYTES * list_choices(&table, NULL))
+        && out_len < ENTRY_BYTES * list_choices(&table, rule->holds, NULL))
         return -REFUSED_ROOM;
-    return (int64_t)list_choices(&table, out);
+    return (int64_t)list_choices(&table, rule->holds, out);
 }
 
 int64_t climbing_next(const uint8_t *sheet, size_t len, uint32_t after)
 {
-    return next_choice(sheet, len, after, 0);
+    return next_choice(&passing, sheet, len, after);
 }
 
 int64_t climbing_list(const uint8_t *sheet, size_t len, uint8_t *out, size_t out_len)
 {
-    return list_sheet(sheet, len, out, out_len, 0);
+    return list_sheet(&passing, sheet, len, out, out_len);
 }
 
 int64_t lowest_first_next(const uint8_t *sheet, size_t len, uint32_t after)
 {
-    return next_choice(sheet, len, after, 1);
+    return next_choice(&passing_lowest_first, sheet, len, after);
 }
 
 int64_t lowest_first_list(const uint8_t *sheet, size_t len, uint8_t *out, size_t out_len)
 {
-    return list_sheet(sheet, len, out, out_len, 1);
+    return list_sheet(&passing_lowest_first, sheet, len, out, out_len);
+}
+
+int64_t climbing_assured_next(const uint8_t *sheet, size_t len, uint32_t after)
+{
+    return next_choice(&assured, sheet, len, after);
+}
+
+int64_t climbing_assured_list(const uint8_t *sheet, size_t len, uint8_t *out, size_t out_len)
+{
+    return list_sheet(&assured, sheet, len, out, out_len);
 }

@@ -16,7 +16,11 @@ int64_t climbing_least_interval(const uint8_t *sheet, size_t len);
 int64_t climbing_next(const uint8_t *sheet, size_t len, uint32_t after);
 int64_t climbing_list(const uint8_t *sheet, size_t len, uint8_t *out, size_t out_len);
 
-/* The same two, but the lowest task is asked first: late, it ends the walk and empties the list. */
+int64_t climbing_assured_response(const uint8_t *sheet, size_t len, size_t place);
+int64_t climbing_assured_next(const uint8_t *sheet, size_t len, uint32_t after);
+int64_t climbing_assured_list(const uint8_t *sheet, size_t len, uint8_t *out, size_t out_len);
+
+/* The walk and the list of passing choices, but the lowest task is asked first: late, it ends the walk and empties the list. */
 int64_t lowest_first_next(const uint8_t *sheet, size_t len, uint32_t after);
 int64_t lowest_first_list(const uint8_t *sheet, size_t len, uint8_t *out, size_t out_len);
 

@@ -43,6 +43,10 @@ static void least_interval(void) { fq_least_interval(sheet, length); }
 static void next(void) { fq_next(sheet, length, 0); }
 static void list(void) { fq_list(sheet, length, output, sizeof output); }
 static void short_list(void) { fq_list(sheet, length, output, 40); }
+static void assured_response(void) { fq_assured_response(sheet, length, 0); }
+static void assured_next(void) { fq_assured_next(sheet, length, 0); }
+static void assured_list(void) { fq_assured_list(sheet, length, output, sizeof output); }
+static void short_assured_list(void) { fq_assured_list(sheet, length, output, 40); }
 static void replay(void) { fq_replay(sheet, length, log_bytes, sizeof log_bytes, counts, FQ_COUNTS); }
 static void cores(void) { fq_cores(sheet, length, FQ_MOST_CORES, output, sizeof output); }
 static void check(void) { fq_check(sheet, length, record_bytes, sizeof record_bytes); }
@@ -75,7 +79,9 @@ int main(void)
     } calls[] = {
         {"fq_judge", judge}, {"fq_write", write}, {"fq_write_shared", write_shared}, {"fq_rewrite", rewrite}, {"fq_record", record},
         {"fq_response", response}, {"fq_slack", slack}, {"fq_verdict", verdict},
-        {"fq_least_interval", least_interval}, {"fq_next", next}, {"fq_list", list}, {"fq_list, no room", short_list}, {"fq_replay", replay}, {"fq_check", check}, {"fq_grant", grant}, {"fq_mend", mend},
+        {"fq_least_interval", least_interval}, {"fq_next", next}, {"fq_list", list}, {"fq_list, no room", short_list},
+        {"fq_assured_response", assured_response}, {"fq_assured_next", assured_next}, {"fq_assured_list", assured_list},
+        {"fq_assured_list, no room", short_assured_list}, {"fq_replay", replay}, {"fq_check", check}, {"fq_grant", grant}, {"fq_mend", mend},
         {"fq_cores", cores}, {"fq_release", release},
     };
     const uint16_t intervals[] = {everyday.interval, 1};

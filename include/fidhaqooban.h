@@ -17,11 +17,13 @@
  *
  * Memory and time: no heap, no state, no call of anything outside the library; FQ_STACK_BYTES bounds the stack.
  * The x86-64 code uses the SSE registers, so whoever calls it where these are not saved (a kernel, an
- * interrupt handler) saves them first. fq_judge, fq_write, fq_rewrite, fq_record and fq_grant take about a microsecond, fq_mend a few;
- * fq_response, fq_slack, fq_verdict, fq_release, and fq_cores with up to 32 verdicts, microseconds to milliseconds; fq_least_interval,
- * fq_next and fq_list microseconds to some tens of milliseconds, for all 40320 choices of eight tasks too
+ * interrupt handler) saves them first. fq_judge, fq_write, fq_rewrite, fq_record and fq_grant take about a
+ * microsecond, fq_mend a few; fq_response, fq_slack, fq_verdict, fq_assured_response, fq_release, and fq_cores
+ * with up to 32 verdicts, microseconds to milliseconds; fq_least_interval, fq_next, fq_list, fq_assured_next and
+ * fq_assured_list microseconds to some tens of milliseconds, for all 40320 choices of eight tasks too
  * (docs/PERFORMANCE.md has the slowest sheets).
- * Where the lowest task, of priority 1, is late, no choice passes, and fq_next and fq_list say so from that one response.
+ * Where the lowest task, of priority 1, is late, no choice passes and none is assured, and the next choices and the
+ * lists say so from that one response.
  *
  * Build the library with `rt staticlib fidhaqooban` and link target/staticlib/libfidhaqooban.a (x86-64).
  */
@@ -36,7 +38,7 @@ extern "C" {
 #endif
 
 /* The version of this header and library; `./desk --version` prints the same. */
-#define FQ_VERSION "1.14.0"
+#define FQ_VERSION "1.15.0"
 
 /*
  * What a refused call gives, in the order in which the rules are tried: the number of the first rule broken,
@@ -57,7 +59,7 @@ enum fq_refusal {
     FQ_DIFFERENT_COUNTS = 24,   /* the sheet in use and the candidate have different counts */
     FQ_BAD_PLACE = 12,          /* the record place asked for, or a protected place, is not below the count */
     FQ_BAD_CHOICE = 13,         /* the choice to go on after is neither 0 nor allowed */
-    FQ_SHARED_PROCESSOR = 19,   /* logs are replayed, records checked and cores given for the whole processor only */
+    FQ_SHARED_PROCESSOR = 19,   /* logs are replayed, records checked, choices assured and cores given for the whole processor only */
     FQ_BAD_CORES = 23,          /* the number of cores is not 1 to 4 */
     FQ_ODD_LOG = 14,            /* a log has an odd number of bytes, or a record one that is no multiple of three */
     FQ_STRANGE_BIT = 15,        /* a tick has a release bit above the count, or one of the seven other bits set */
@@ -188,6 +190,30 @@ int64_t fq_next(const uint8_t *sheet, size_t len, uint32_t after);
  * Answer: how many entries were written, or minus the refusal (1 to 11 or 18).
  */
 int64_t fq_list(const uint8_t *sheet, size_t len, uint8_t *out, size_t out_len);
+
+/*
+ * The assured time of the record at a place (from 0), under the sheet's own interval and fault priorities: by
+ * the equation "low" of docs/RUNS.md, which is proved of runs. Where every task has one, no job misses its
+ * deadline in any log that fq_replay accepts, and each is done within its task's assured time. For the whole
+ * processor only.
+ * Answer: the time, 0 where the task has none within its deadline, or minus the refusal (1 to 10, 18, 19, and
+ * last 12).
+ */
+int64_t fq_assured_response(const uint8_t *sheet, size_t len, size_t place);
+
+/*
+ * The next choice of fault priorities under which every task has an assured time, after any allowed choice, in
+ * the numbers of fq_next. It need not be one that fq_next gives: a choice can pass and not be assured, or be
+ * assured and not pass.
+ * Answer: the choice, 0 at the end, or minus the refusal (1 to 10, 18, 19, and last 13).
+ */
+int64_t fq_assured_next(const uint8_t *sheet, size_t len, uint32_t after);
+
+/*
+ * Writes every such choice, ascending, as fq_list writes the passing ones.
+ * Answer: how many entries were written, or minus the refusal (1 to 10, 18, 19, and last 11).
+ */
+int64_t fq_assured_list(const uint8_t *sheet, size_t len, uint8_t *out, size_t out_len);
 
 /*
  * Replays a log of the box: two bytes a tick, first the releases, one bit for each priority with priority 8

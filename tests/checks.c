@@ -2,6 +2,7 @@
 #include "checks.h"
 
 #include "plain.h"
+#include "plain_assured.h"
 
 #include <inttypes.h>
 #include <stdbool.h>
@@ -209,10 +210,11 @@ int64_t check_rewrite(struct comparison *comparison, size_t out_len)
     return check_output(comparison, "fq_rewrite", fq_rewrite, plain_rewrite, out_len);
 }
 
-/* Compares the list of choices. */
-int64_t check_list(struct comparison *comparison, size_t out_len)
+/* Compares the list of choices by a rule. */
+int64_t check_list(struct comparison *comparison, enum rule rule, size_t out_len)
 {
-    return check_output(comparison, "fq_list", fq_list, plain_list, out_len);
+    return rule == PASSING ? check_output(comparison, "fq_list", fq_list, plain_list, out_len)
+                           : check_output(comparison, "fq_assured_list", fq_assured_list, plain_assured_list, out_len);
 }
 
 /* A function that answers for the record at a place. */
@@ -236,10 +238,11 @@ int64_t check_record(struct comparison *comparison, size_t place)
     return check_place(comparison, "fq_record", fq_record, plain_record, place);
 }
 
-/* Compares the response time at a place. */
-int64_t check_response(struct comparison *comparison, size_t place)
+/* Compares the time at a place by a rule. */
+int64_t check_response(struct comparison *comparison, enum rule rule, size_t place)
 {
-    return check_place(comparison, "fq_response", fq_response, plain_response, place);
+    return rule == PASSING ? check_place(comparison, "fq_response", fq_response, plain_response, place)
+                           : check_place(comparison, "fq_assured_response", fq_assured_response, plain_assured_response, place);
 }
 
 /* Compares the slack at a place, in an output with room for so many figures. */
@@ -300,19 +303,26 @@ void check_interval(struct comparison *comparison, int64_t expected)
                 fq_least_interval(laid(comparison), comparison->sheet_length), expected);
 }
 
-/* Compares the step after a choice, allowed or not. */
-int64_t check_next(struct comparison *comparison, uint32_t after)
+/* Compares the step after a choice, allowed or not, by a rule. */
+int64_t check_next(struct comparison *comparison, enum rule rule, uint32_t after)
 {
-    int64_t expected = plain_next(laid(comparison), comparison->sheet_length, after);
-    check_step(comparison, after, expected);
+    const uint8_t *sheet = laid(comparison);
+    size_t length = comparison->sheet_length;
+    int64_t expected = rule == PASSING ? plain_next(sheet, length, after) : plain_assured_next(sheet, length, after);
+    check_step(comparison, rule, after, expected);
     return expected;
 }
 
-/* Compares one step of the library with what is already known. */
-void check_step(struct comparison *comparison, uint32_t after, int64_t expected)
+/* Compares one step of the library by a rule with what is already known. */
+void check_step(struct comparison *comparison, enum rule rule, uint32_t after, int64_t expected)
 {
-    check_whole(comparison, "fq_next", after, fq_next(laid(comparison), comparison->sheet_length, after),
-                expected);
+    const uint8_t *sheet = laid(comparison);
+    size_t length = comparison->sheet_length;
+    if (rule == PASSING) {
+        check_whole(comparison, "fq_next", after, fq_next(sheet, length, after), expected);
+    } else {
+        check_whole(comparison, "fq_assured_next", after, fq_assured_next(sheet, length, after), expected);
+    }
 }
 
 /* Compares the replay of a log; the library gets a copy of it, which must not change, and room for so many counts. */

@@ -28,6 +28,9 @@ enum {
 /* The kinds of rounds. */
 enum round_kind { CODEC, ANALYSIS, REPLAY, LOCK, MEND, CORES, RELEASE };
 
+/* The two rules that there are times, steps and lists by: request 3's equations, and the assured times. */
+enum rule { PASSING, ASSURED, RULES };
+
 /* The state of a whole run: which round it is in, what it lends to the calls, and what was found so far. */
 struct comparison {
     uint64_t seed;
@@ -69,12 +72,12 @@ int64_t check_write(struct comparison *comparison, const struct writing *writing
 int64_t check_write_shared(struct comparison *comparison, const struct writing *writing, size_t out_len);
 int64_t check_rewrite(struct comparison *comparison, size_t out_len);
 int64_t check_record(struct comparison *comparison, size_t place);
-int64_t check_response(struct comparison *comparison, size_t place);
+int64_t check_response(struct comparison *comparison, enum rule rule, size_t place);
 int64_t check_slack(struct comparison *comparison, size_t place, size_t out_len);
 int64_t check_verdict(struct comparison *comparison);
 int64_t check_least_interval(struct comparison *comparison);
-int64_t check_next(struct comparison *comparison, uint32_t after);
-int64_t check_list(struct comparison *comparison, size_t out_len);
+int64_t check_next(struct comparison *comparison, enum rule rule, uint32_t after);
+int64_t check_list(struct comparison *comparison, enum rule rule, size_t out_len);
 int64_t check_replay(struct comparison *comparison, const struct log *log, size_t counts_len);
 int64_t check_supplied(struct comparison *comparison, const struct log *record);
 int64_t check_grant(struct comparison *comparison, const struct asking *asking, size_t margin_len, int64_t *margin);
@@ -86,7 +89,7 @@ int64_t check_mend(struct comparison *comparison, size_t out_len, size_t changes
 int64_t check_cores(struct comparison *comparison, uint8_t cores, size_t out_len);
 
 /* Checks that the library's step after a choice is the expected one; the plain desk is not asked again. */
-void check_step(struct comparison *comparison, uint32_t after, int64_t expected);
+void check_step(struct comparison *comparison, enum rule rule, uint32_t after, int64_t expected);
 
 /* Checks that the library's least interval is the expected one; the plain desk is not asked. */
 void check_interval(struct comparison *comparison, int64_t expected);

@@ -74,6 +74,13 @@ static void print_answers(const char *name, const uint64_t *given, unsigned answ
     puts("");
 }
 
+/* Prints the mix of lists by one rule. */
+static void print_lists(const char *name, const struct list_tally *lists)
+{
+    printf("lists of %s choices: %" PRIu64 " (%" PRIu64 " of eight tasks), with a late lowest task: %" PRIu64 ", empty otherwise: %" PRIu64 ", of some and not all: %" PRIu64 " (%" PRIu64 " with more than four tasks); choices: %" PRIu64 "\n",
+           name, lists->all, lists->of_eight, lists->with_lowest_late, lists->empty_otherwise, lists->partial, lists->long_partial, lists->choices);
+}
+
 /* Prints the mix of sheets and the closing line. */
 static void print_tally(const struct comparison *comparison, const struct tally *tally)
 {
@@ -93,17 +100,17 @@ static void print_tally(const struct comparison *comparison, const struct tally 
     print_answers("pairs by refusal of fq_release", tally->released, RELEASE_JUDGEMENTS);
     printf("candidates loaded: %" PRIu64 ", in place of a sheet that does not pass: %" PRIu64 ", passing ones kept out: %" PRIu64 "\n",
            tally->loaded, tally->loaded_over_late, tally->kept_from_passing);
-    printf("slacks with a figure: %" PRIu64 ", least intervals of none: %" PRIu64 ", listed choices: %" PRIu64 "\n",
-           tally->figures, tally->least_intervals_of_none, tally->listed_choices);
-    printf("lists where the lowest task is late: %" PRIu64 ", other empty lists: %" PRIu64 "\n", tally->lists_with_lowest_late,
-           tally->other_empty_lists);
-    printf("lists of some choices and not all: %" PRIu64 ", with more than four tasks: %" PRIu64 "\n", tally->partial_lists,
-           tally->long_partial_lists);
+    printf("slacks with a figure: %" PRIu64 ", least intervals of none: %" PRIu64 "\n", tally->figures,
+           tally->least_intervals_of_none);
+    printf("sheets that are assured: %" PRIu64 ", that are not: %" PRIu64 ", that are and do not pass: %" PRIu64 ", that pass and are not: %" PRIu64 ", refused as shared: %" PRIu64 "\n",
+           tally->assured, tally->not_assured, tally->assured_only, tally->passing_only, tally->assured_refused);
+    print_lists("passing", &tally->lists[PASSING]);
+    print_lists("assured", &tally->lists[ASSURED]);
     printf("%" PRIu64 " codec sheets, %" PRIu64 " analysis sheets (%" PRIu64 " pass, %" PRIu64 " do not), ",
            tally->codec_sheets, tally->analysis_sheets, tally->passing, tally->late);
     printf("%" PRIu64 " least intervals, %" PRIu64 " lists (%" PRIu64 " of eight tasks), %" PRIu64 " logs, %" PRIu64 " requests for locks, %" PRIu64 " sheets typed by hand, %" PRIu64 " boxes, %" PRIu64 " pairs, ",
-           tally->least_intervals, tally->lists, tally->lists_of_eight, tally->logs, tally->requests, tally->typed, tally->boxes,
-           tally->pairs);
+           tally->least_intervals, tally->lists[PASSING].all, tally->lists[PASSING].of_eight, tally->logs, tally->requests, tally->typed,
+           tally->boxes, tally->pairs);
     printf("%" PRIu64 " checks, %" PRIu64 " differences\n", comparison->checks, comparison->differences);
 }
 
@@ -132,6 +139,20 @@ static bool every_pair_run(const struct tally *tally)
            tally->loaded_over_late > 0 && tally->kept_from_passing > 0;
 }
 
+/* Whether lists of each kind were run by one rule. */
+static bool every_list_run(const struct list_tally *lists)
+{
+    return lists->all > lists->of_eight && lists->of_eight > 0 && lists->with_lowest_late > 0 &&
+           lists->with_lowest_late < lists->all && lists->long_partial > 0;
+}
+
+/* Whether sheets that are assured, are not and are refused were run, and such as the other rule judges otherwise. */
+static bool every_assured_run(const struct tally *tally)
+{
+    return tally->assured > tally->assured_only && tally->assured_only > 0 && tally->not_assured > tally->passing_only &&
+           tally->passing_only > 0 && tally->assured_refused > 0;
+}
+
 /* Whether at least one sheet of each kind, and a log and a record of each judgement, was run. */
 static bool every_kind_run(const struct tally *tally)
 {
@@ -141,9 +162,8 @@ static bool every_kind_run(const struct tally *tally)
         }
     }
     return tally->judged[0] > 0 && tally->judged[0] < tally->codec_sheets && tally->judged[BAD_SHARE] > 0 && tally->passing > 0 &&
-           tally->late > 0 && tally->least_intervals > 0 && tally->lists > tally->lists_of_eight &&
-           tally->lists_of_eight > 0 && tally->lists_with_lowest_late > 0 && tally->long_partial_lists > 0 &&
-           tally->lists_with_lowest_late < tally->lists && tally->replayed[0] > 0 && tally->accepted > 0 && tally->differing > 0 &&
+           tally->late > 0 && tally->least_intervals > 0 && every_list_run(&tally->lists[PASSING]) &&
+           every_list_run(&tally->lists[ASSURED]) && every_assured_run(tally) && tally->replayed[0] > 0 && tally->accepted > 0 && tally->differing > 0 &&
            every_lock_run(tally) && tally->unchanged > 0 && tally->unchanged < tally->mended[0] && tally->mended[0] < tally->typed &&
            every_box_run(tally) && every_pair_run(tally);
 }
@@ -153,6 +173,7 @@ static int run(struct comparison *comparison)
 {
     struct tally tally = {0};
     edge_round(comparison);
+    assured_edge_round(comparison, &tally);
     for (uint64_t round = 0; round < comparison->count; round++) {
         codec_round(comparison, &tally, round);
     }

@@ -41,13 +41,9 @@ struct search {
     uint64_t logs;
 };
 
-/* Gives a draft the whole processor, and each record its priority for a fault priority. */
-static void set_whole(struct draft *draft)
+/* Gives each record its priority for a fault priority. */
+static void raise_faults(struct draft *draft)
 {
-    draft->reserved = 0;
-    draft->is_shared = false;
-    draft->round = 1;
-    draft->share = 1;
     for (unsigned place = 0; place < draft->tasks; place++) {
         draft->numbers[place][FAULT_PRIORITY] = draft->numbers[place][PRIORITY];
     }
@@ -116,16 +112,6 @@ static struct search searched(struct generator *generator, const struct draft *d
     return search;
 }
 
-/* Prints a sheet that is against the theorem. */
-static void print_wrong(const struct search *search, const char *reason)
-{
-    printf("%s: ", reason);
-    for (size_t index = 0; index < search->sheet.length; index++) {
-        printf("%02x", search->sheet.bytes[index]);
-    }
-    puts("");
-}
-
 /* Compares the longest jobs of a passing sheet with its response times. */
 static void compare_times(struct found *found, const struct search *search, unsigned tasks)
 {
@@ -134,7 +120,7 @@ static void compare_times(struct found *found, const struct search *search, unsi
         found->tasks++;
         found->reached += search->longest[place] == response;
         if (search->longest[place] > response) {
-            print_wrong(search, "a job takes longer than its task's response time");
+            print_sheet("a job takes longer than its task's response time", &search->sheet);
             found->wrong++;
         }
     }
@@ -146,7 +132,7 @@ static void add_passing(struct found *found, const struct search *search, unsign
     found->passing++;
     compare_times(found, search, tasks);
     if (search->missed > 0) {
-        print_wrong(search, "passes, and a job is missed");
+        print_sheet("passes, and a job is missed", &search->sheet);
         found->passing_that_miss++;
         found->wrong++;
     }
@@ -159,6 +145,7 @@ static void run_round(struct found *found, uint64_t seed, uint64_t round)
     unsigned tasks = 1 + (unsigned)random_below(&generator, MOST_TASKS);
     struct draft draft = timed_draft(&generator, tasks, 2 + (unsigned)random_below(&generator, LONGEST_PERIOD - 1));
     set_whole(&draft);
+    raise_faults(&draft);
     struct search search = searched(&generator, &draft);
     found->logs += search.logs;
     if (plain_verdict(search.sheet.bytes, search.sheet.length) == 1) {

@@ -4,18 +4,13 @@
  */
 #include "plain.h"
 
-#include "plain_sheet.h"
-
-#include <stdbool.h>
+#include "plain_search.h"
 
 enum {
     RECORD_NUMBERS = 6,
-    ENTRY_BYTES = 4,
-    MOST_CHOICES = 40320,
     LONGEST_INTERVAL = 65535,
     LONGEST_TIME = 65535,
     HIGHEST_WRITTEN_PRIORITY = 255,
-    NO_TIME = 0,
     NOBODY = MOST_TASKS
 };
 
@@ -30,12 +25,6 @@ static uint64_t priority_at(const uint16_t *fields, size_t fields_len, size_t in
 {
     uint64_t number = number_at(fields, fields_len, index);
     return number > HIGHEST_WRITTEN_PRIORITY ? HIGHEST_WRITTEN_PRIORITY : number;
-}
-
-/* A divided by b, rounded up. */
-static uint64_t up(uint64_t a, uint64_t b)
-{
-    return (a + b - 1) / b;
 }
 
 /* The largest backup among the records but one with a fault priority at or above a level, or 0. */
@@ -68,20 +57,6 @@ static uint64_t cost_above(const struct table *table, uint64_t level, uint64_t l
 static uint64_t supplier_cost(const struct table *table, uint64_t length)
 {
     return up(length, table->round) * (table->round - table->share);
-}
-
-/* What a length has to be at least, of a record. */
-typedef uint64_t needed_length(const struct table *table, size_t place, uint64_t length);
-
-/* The least length that is at least what is needed, or no time within the limit. */
-static uint64_t least_length(needed_length *needed, const struct table *table, size_t place, uint64_t limit)
-{
-    for (uint64_t length = 1; length <= limit; length++) {
-        if (length >= needed(table, place, length)) {
-            return length;
-        }
-    }
-    return NO_TIME;
 }
 
 /* What a record needs when faults hit other tasks only. */
@@ -124,61 +99,6 @@ static bool passes(const struct table *table)
 {
     for (size_t place = 0; place < table->count; place++) {
         if (response_time(table, place, table->records[place].deadline) == NO_TIME) {
-            return false;
-        }
-    }
-    return true;
-}
-
-/* How many choices of fault priorities a table has. */
-static uint32_t choices_of(const struct table *table)
-{
-    uint32_t choices = 1;
-    for (size_t place = 0; place < table->count; place++) {
-        choices *= (uint32_t)table->records[place].priority;
-    }
-    return choices;
-}
-
-/* Sets the fault priorities of the choice at an index; the last record's moves fastest. */
-static void set_choice(struct table *table, uint32_t index)
-{
-    for (size_t place = table->count; place > 0; place--) {
-        struct record *own = &table->records[place - 1];
-        own->fault_priority = 1 + index % own->priority;
-        index /= (uint32_t)own->priority;
-    }
-}
-
-/* The entry of a record, by place from 0, in a choice of 32 bits. */
-static uint64_t entry_at(uint32_t choice, size_t place)
-{
-    return (choice >> (28 - 4 * place)) & 15;
-}
-
-/* The choice of 32 bits that a table's fault priorities make. */
-static uint32_t choice_number(const struct table *table)
-{
-    uint32_t number = 0;
-    for (size_t place = 0; place < table->count; place++) {
-        number |= (uint32_t)table->records[place].fault_priority << (28 - 4 * place);
-    }
-    return number;
-}
-
-/* Whether a walk may go on after a choice. */
-static bool allowed_after(const struct table *table, uint32_t after)
-{
-    if (after == 0) {
-        return true;
-    }
-    for (size_t place = 0; place < table->count; place++) {
-        if (entry_at(after, place) < 1 || entry_at(after, place) > table->records[place].priority) {
-            return false;
-        }
-    }
-    for (size_t place = table->count; place < MOST_TASKS; place++) {
-        if (entry_at(after, place) != 0) {
             return false;
         }
     }
@@ -298,19 +218,7 @@ int64_t plain_next(const uint8_t *sheet, size_t len, uint32_t after)
 {
     struct table table;
     int64_t refusal = refused(sheet, len, &table);
-    if (refusal != 0) {
-        return refusal;
-    }
-    if (!allowed_after(&table, after)) {
-        return -BAD_CHOICE;
-    }
-    for (uint32_t index = 0; index < choices_of(&table); index++) {
-        set_choice(&table, index);
-        if (choice_number(&table) > after && passes(&table)) {
-            return choice_number(&table);
-        }
-    }
-    return 0;
+    return refusal != 0 ? refusal : search_next(&table, passes, after);
 }
 
 /* Every passing choice of all, in order. */
@@ -318,24 +226,5 @@ int64_t plain_list(const uint8_t *sheet, size_t len, uint8_t *out, size_t out_le
 {
     struct table table;
     int64_t refusal = refused(sheet, len, &table);
-    if (refusal != 0) {
-        return refusal;
-    }
-    uint32_t passing[MOST_CHOICES];
-    size_t entries = 0;
-    for (uint32_t index = 0; index < choices_of(&table); index++) {
-        set_choice(&table, index);
-        if (passes(&table)) {
-            passing[entries] = choice_number(&table);
-            entries++;
-        }
-    }
-    if (out_len < ENTRY_BYTES * entries) {
-        return -OUTPUT_TOO_SHORT;
-    }
-    size_t position = 0;
-    for (size_t entry = 0; entry < entries; entry++) {
-        put_bits(out, &position, 32, passing[entry]);
-    }
-    return (int64_t)entries;
+    return refusal != 0 ? refusal : search_list(&table, passes, out, out_len);
 }

@@ -1,13 +1,12 @@
 /*
  * The plain replay: request 1's paragraph sentence by sentence, and request 7's. It keeps the tick at which each thing
  * happened, and looks for the job that runs by comparing all of them. For request 12 it also tells how long jobs took,
- * and marks the faults that hurt most.
+ * and marks the faults that hurt most; for the search through all states it runs one tick from any jobs on.
  */
 #include "plain.h"
 
-#include "plain_sheet.h"
+#include "plain_machine.h"
 
-#include <stdbool.h>
 #include <string.h>
 
 enum { FIRST_ATTEMPTS, BACKUPS, IDLING, RELEASED, FINISHED, MISSED, UNFINISHED, COUNTS };
@@ -182,6 +181,25 @@ static uint8_t run_tick(struct running *tasks, size_t count, const struct ticks 
     return shown;
 }
 
+/* The tick is tick 0, and jobs were released before it; the difference of the two is right in 64 bits all the same. */
+uint64_t plain_tick(const struct table *table, const uint8_t *bytes, struct job *jobs, uint64_t *longest)
+{
+    struct running tasks[MOST_TASKS];
+    struct ticks ticks = {bytes, LOG_TICK_BYTES, LOG_TICK_BYTES};
+    uint64_t counts[COUNTS] = {0};
+    for (size_t place = 0; place < table->count; place++) {
+        const struct job *job = &jobs[place];
+        tasks[place] = (struct running){table->records[place], job->left > 0, job->is_backup, job->left, 0 - job->age, longest[place]};
+    }
+    run_tick(tasks, table->count, &ticks, 0, counts);
+    for (size_t place = 0; place < table->count; place++) {
+        const struct running *one = &tasks[place];
+        jobs[place] = one->has_job ? (struct job){one->left, 1 - one->released_at, one->is_backup} : (struct job){0, 0, false};
+        longest[place] = one->longest;
+    }
+    return counts[MISSED];
+}
+
 /* The tasks of a table, none with a job. */
 static void take_tasks(const struct table *table, struct running *tasks)
 {
@@ -205,14 +223,8 @@ static void count_log(const struct table *table, const struct ticks *log, struct
 /* Minus the refusal of a sheet and a log or record: the sheet's own, then 19, then 14 to 17; or 0 with the table. */
 static int64_t refused_ticks(const uint8_t *sheet, size_t len, const struct ticks *ticks, struct table *table)
 {
-    int64_t refusal = refused(sheet, len, table);
-    if (refusal == 0 && !is_whole(table)) {
-        refusal = -SHARED_PROCESSOR;
-    }
-    if (refusal == 0) {
-        refusal = -(int64_t)judge_ticks(table, ticks);
-    }
-    return refusal;
+    int64_t refusal = refused_shared(sheet, len, table);
+    return refusal != 0 ? refusal : -(int64_t)judge_ticks(table, ticks);
 }
 
 /* Replays a log: its counts, or minus the refusal. */

@@ -162,7 +162,14 @@ int64_t refused(const uint8_t *sheet, size_t len, struct table *table)
     return -(int64_t)read_sheet(sheet, len, table);
 }
 
-/* The same for the record at a place of the sheet. */
+/* The same for a sheet of the whole processor: 19 after the sheet's own. */
+int64_t refused_shared(const uint8_t *sheet, size_t len, struct table *table)
+{
+    int64_t refusal = refused(sheet, len, table);
+    return refusal == 0 && !is_whole(table) ? -SHARED_PROCESSOR : refusal;
+}
+
+/* The same as the first for the record at a place of the sheet. */
 int64_t refused_at(const uint8_t *sheet, size_t len, size_t place, struct table *table)
 {
     int64_t refusal = refused(sheet, len, table);

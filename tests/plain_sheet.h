@@ -82,7 +82,10 @@ int64_t write_table(const struct table *table, uint8_t *out, size_t out_len);
 /* Reads a sheet into a table: 0, or minus the refusal. */
 int64_t refused(const uint8_t *sheet, size_t len, struct table *table);
 
-/* The same for the record at a place of the sheet. */
+/* The same where only a sheet of the whole processor is taken: its own refusal, then 19. */
+int64_t refused_shared(const uint8_t *sheet, size_t len, struct table *table);
+
+/* The same as the first for the record at a place of the sheet: its own refusal, then 12. */
 int64_t refused_at(const uint8_t *sheet, size_t len, size_t place, struct table *table);
 
 #endif

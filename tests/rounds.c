@@ -66,18 +66,27 @@ static void check_records(struct comparison *comparison)
     check_record(comparison, SIZE_MAX - random_below(&comparison->generator, 2));
 }
 
+/* Asks for a time, steps and lists, which a refused sheet has to be refused by, whatever place, choice and room are given. */
+static void check_refused_by(struct comparison *comparison, enum rule rule)
+{
+    struct generator *generator = &comparison->generator;
+    check_response(comparison, rule, random_below(generator, MOST_TASKS + 2));
+    check_next(comparison, rule, 0);
+    check_next(comparison, rule, (uint32_t)random_below(generator, UINT32_MAX));
+    check_list(comparison, rule, 0);
+    check_list(comparison, rule, random_below(generator, SHEET_ROOM));
+}
+
 /* Makes the calls that a refused sheet has to be refused by, whatever else they ask for. */
 static void check_refused_calls(struct comparison *comparison)
 {
     struct generator *generator = &comparison->generator;
-    check_response(comparison, random_below(generator, MOST_TASKS + 2));
     check_slack(comparison, random_below(generator, MOST_TASKS + 2), random_below(generator, 2));
     check_verdict(comparison);
     check_least_interval(comparison);
-    check_next(comparison, 0);
-    check_next(comparison, (uint32_t)random_below(generator, UINT32_MAX));
-    check_list(comparison, 0);
-    check_list(comparison, random_below(generator, SHEET_ROOM));
+    for (enum rule rule = PASSING; rule < RULES; rule++) {
+        check_refused_by(comparison, rule);
+    }
     check_replay(comparison, &(struct log){.length = random_below(generator, LONGEST_LOG)}, FQ_COUNTS);
     check_supplied(comparison, &(struct log){.length = random_below(generator, LONGEST_LOG)});
 }
@@ -188,13 +197,13 @@ void codec_round(struct comparison *comparison, struct tally *tally, uint64_t ro
 static void check_times(struct comparison *comparison, struct tally *tally, const struct draft *draft)
 {
     for (size_t place = 0; place < draft->tasks + 2; place++) {
-        check_response(comparison, place);
+        check_response(comparison, PASSING, place);
         tally->figures += check_slack(comparison, place, 1) == 1;
     }
     check_slack(comparison, random_below(&comparison->generator, draft->tasks), 0);
     check_slack(comparison, random_below(&comparison->generator, draft->tasks), 2);
-    check_response(comparison, SIZE_MAX / 2 + 1);
-    check_response(comparison, SIZE_MAX);
+    check_response(comparison, PASSING, SIZE_MAX / 2 + 1);
+    check_response(comparison, PASSING, SIZE_MAX);
     if (check_verdict(comparison) == 1) {
         tally->passing++;
     } else {
@@ -216,7 +225,7 @@ static uint32_t choice_of(struct generator *generator, const struct draft *draft
 }
 
 /* Steps from allowed choices and from each kind of choice that is not allowed. */
-static void check_steps(struct comparison *comparison, const struct draft *draft)
+static void check_steps(struct comparison *comparison, enum rule rule, const struct draft *draft)
 {
     struct generator *generator = &comparison->generator;
     unsigned place = (unsigned)random_below(generator, draft->tasks);
@@ -224,30 +233,30 @@ static void check_steps(struct comparison *comparison, const struct draft *draft
     uint32_t allowed = choice_of(generator, draft, false);
     uint32_t cleared = allowed & ~((uint32_t)15 << shift);
     uint32_t priority = draft->numbers[place][PRIORITY];
-    check_next(comparison, 0);
-    check_next(comparison, allowed);
-    check_next(comparison, choice_of(generator, draft, true));
-    check_next(comparison, cleared);
-    check_next(comparison, cleared | (priority + 1) << shift);
-    check_next(comparison, cleared | (uint32_t)15 << shift);
-    check_next(comparison, 1 + (uint32_t)random_below(generator, UINT32_MAX));
+    check_next(comparison, rule, 0);
+    check_next(comparison, rule, allowed);
+    check_next(comparison, rule, choice_of(generator, draft, true));
+    check_next(comparison, rule, cleared);
+    check_next(comparison, rule, cleared | (priority + 1) << shift);
+    check_next(comparison, rule, cleared | (uint32_t)15 << shift);
+    check_next(comparison, rule, 1 + (uint32_t)random_below(generator, UINT32_MAX));
     if (draft->tasks < MOST_TASKS) {
         unsigned past = (unsigned)random_below(generator, MOST_TASKS - draft->tasks);
-        check_next(comparison, allowed | (uint32_t)1 << (4 * past));
-        check_next(comparison, (uint32_t)1 << (4 * past));
+        check_next(comparison, rule, allowed | (uint32_t)1 << (4 * past));
+        check_next(comparison, rule, (uint32_t)1 << (4 * past));
     }
 }
 
 /* Walks with the library alone from the start to the end, along the list that the plain desk wrote last; of
  * a long list, evenly spread steps are taken. */
-static void check_walk(struct comparison *comparison, size_t entries)
+static void check_walk(struct comparison *comparison, enum rule rule, size_t entries)
 {
     size_t stride = 1 + entries / MOST_STEPS;
     for (size_t index = 0; index < entries; index += stride) {
         uint32_t after = index == 0 ? 0 : listed_entry(comparison, index - 1);
-        check_step(comparison, after, listed_entry(comparison, index));
+        check_step(comparison, rule, after, listed_entry(comparison, index));
     }
-    check_step(comparison, entries == 0 ? 0 : listed_entry(comparison, entries - 1), 0);
+    check_step(comparison, rule, entries == 0 ? 0 : listed_entry(comparison, entries - 1), 0);
 }
 
 /* Whether the lowest task of a draft is late, which decides its whole list. */
@@ -262,28 +271,29 @@ static bool is_lowest_late(const struct draft *draft)
 }
 
 /* Lists the choices into outputs too long, just long enough and too short, and walks along the list. */
-static void check_lists(struct comparison *comparison, struct tally *tally, const struct draft *draft)
+static void check_lists(struct comparison *comparison, struct tally *tally, enum rule rule, const struct draft *draft)
 {
     struct generator *generator = &comparison->generator;
     size_t room = ENTRY_BYTES;
     for (unsigned task = 1; task <= draft->tasks; task++) {
         room *= task;
     }
-    size_t entries = (size_t)check_list(comparison, room + random_below(generator, MARGIN));
-    check_walk(comparison, entries);
-    check_list(comparison, ENTRY_BYTES * entries);
+    size_t entries = (size_t)check_list(comparison, rule, room + random_below(generator, MARGIN));
+    check_walk(comparison, rule, entries);
+    check_list(comparison, rule, ENTRY_BYTES * entries);
     if (entries > 0) {
-        check_list(comparison, ENTRY_BYTES * entries - 1);
-        check_list(comparison, ENTRY_BYTES * (entries - 1));
-        check_list(comparison, random_below(generator, ENTRY_BYTES * entries));
+        check_list(comparison, rule, ENTRY_BYTES * entries - 1);
+        check_list(comparison, rule, ENTRY_BYTES * (entries - 1));
+        check_list(comparison, rule, random_below(generator, ENTRY_BYTES * entries));
     }
-    tally->lists++;
-    tally->lists_of_eight += draft->tasks == MOST_TASKS;
-    tally->lists_with_lowest_late += is_lowest_late(draft);
-    tally->other_empty_lists += entries == 0 && !is_lowest_late(draft);
-    tally->partial_lists += entries > 0 && ENTRY_BYTES * entries < room;
-    tally->long_partial_lists += draft->tasks > FEW_LISTED && entries > 0 && ENTRY_BYTES * entries < room;
-    tally->listed_choices += entries;
+    struct list_tally *lists = &tally->lists[rule];
+    lists->all++;
+    lists->of_eight += draft->tasks == MOST_TASKS;
+    lists->with_lowest_late += is_lowest_late(draft);
+    lists->empty_otherwise += entries == 0 && !is_lowest_late(draft);
+    lists->partial += entries > 0 && ENTRY_BYTES * entries < room;
+    lists->long_partial += draft->tasks > FEW_LISTED && entries > 0 && ENTRY_BYTES * entries < room;
+    lists->choices += entries;
 }
 
 /* A draft that passes at some interval, most of the time, with an interval that need not be that one. */
@@ -343,6 +353,62 @@ static void check_draft(struct comparison *comparison, struct tally *tally, cons
     check_times(comparison, tally, draft);
 }
 
+/* Asks for the assured times at every place, at two past the last and at two far away. A shared sheet is refused at each. */
+static void check_assured_times(struct comparison *comparison, struct tally *tally, const struct draft *draft)
+{
+    bool is_assured = true;
+    for (size_t place = 0; place < draft->tasks + 2; place++) {
+        int64_t time = check_response(comparison, ASSURED, place);
+        is_assured = is_assured && (place >= draft->tasks || time > 0);
+    }
+    check_response(comparison, ASSURED, SIZE_MAX / 2 + 1);
+    check_response(comparison, ASSURED, SIZE_MAX);
+    tally->assured_refused += draft->is_shared;
+    tally->assured += is_assured;
+    tally->not_assured += !draft->is_shared && !is_assured;
+    tally->assured_only += is_assured && check_verdict(comparison) == 0;
+    tally->passing_only += !draft->is_shared && !is_assured && check_verdict(comparison) == 1;
+}
+
+/* Steps and lists by the assured times; a shared draft is refused, and asked again with the whole processor. */
+static void check_assured_lists(struct comparison *comparison, struct tally *tally, const struct draft *draft)
+{
+    struct draft whole = *draft;
+    if (draft->is_shared) {
+        check_steps(comparison, ASSURED, draft);
+        check_refused_by(comparison, ASSURED);
+        set_whole(&whole);
+        struct sheet sheet = packed(&whole);
+        lay_sheet(comparison, sheet.bytes, sheet.length);
+        check_assured_times(comparison, tally, &whole);
+    }
+    check_steps(comparison, ASSURED, &whole);
+    check_lists(comparison, tally, ASSURED, &whole);
+}
+
+/* Steps and lists of a draft by both rules. */
+static void check_listed(struct comparison *comparison, struct tally *tally, const struct draft *draft)
+{
+    check_draft(comparison, tally, draft);
+    check_steps(comparison, PASSING, draft);
+    check_lists(comparison, tally, PASSING, draft);
+    check_assured_times(comparison, tally, draft);
+    check_assured_lists(comparison, tally, draft);
+}
+
+/* Asks request 12's case, which passes and is not assured, and what it comes to with each fault priority at its priority, which does neither. */
+void assured_edge_round(struct comparison *comparison, struct tally *tally)
+{
+    struct draft draft = {
+        .tasks = 3, .count = 3, .interval = 5, .round = 1, .share = 1,
+        .numbers = {{1, 4, 50, 50, 3, 1}, {3, 1, 5, 25, 2, 1}, {1, 1, 25, 25, 1, 1}}};
+    start_round(comparison, ANALYSIS, 0);
+    check_listed(comparison, tally, &draft);
+    draft.numbers[0][FAULT_PRIORITY] = 3;
+    draft.numbers[1][FAULT_PRIORITY] = 2;
+    check_listed(comparison, tally, &draft);
+}
+
 /* Draws a sheet of the sort whose turn it is and asks what is affordable for that sort. */
 void analysis_round(struct comparison *comparison, struct tally *tally, uint64_t round)
 {
@@ -351,25 +417,24 @@ void analysis_round(struct comparison *comparison, struct tally *tally, uint64_t
     start_round(comparison, ANALYSIS, round);
     if (round % EIGHT_LISTED_EVERY == 0) {
         draft = timed_draft(generator, MOST_TASKS, LONGEST_EIGHT_LISTED);
-        check_draft(comparison, tally, &draft);
-        check_steps(comparison, &draft);
-        check_lists(comparison, tally, &draft);
+        check_listed(comparison, tally, &draft);
     } else if (round % FULL_WIDTH_EVERY == 1) {
         draft = full_width_draft(generator);
         check_draft(comparison, tally, &draft);
+        check_assured_times(comparison, tally, &draft);
     } else if (round % LEAST_INTERVAL_EVERY == 2) {
         draft = draft_for_least_interval(generator);
         check_draft(comparison, tally, &draft);
         tally->least_intervals++;
         tally->least_intervals_of_none += check_least_interval(comparison) == 0;
+        check_assured_times(comparison, tally, &draft);
     } else if (round % LISTED_EVERY == 3) {
         draft = draft_to_list(generator);
-        check_draft(comparison, tally, &draft);
-        check_steps(comparison, &draft);
-        check_lists(comparison, tally, &draft);
+        check_listed(comparison, tally, &draft);
     } else {
         draft = modest_draft(generator);
         check_draft(comparison, tally, &draft);
+        check_assured_times(comparison, tally, &draft);
     }
 }
 

@@ -18,6 +18,18 @@ enum {
     MOST_CORES = 4
 };
 
+/* The lists by one rule. */
+struct list_tally {
+    uint64_t all;
+    uint64_t of_eight;
+    uint64_t with_lowest_late;
+    uint64_t empty_otherwise;
+    /* Lists that hold some of the choices and not all, and those of them with more than four tasks. */
+    uint64_t partial;
+    uint64_t long_partial;
+    uint64_t choices;
+};
+
 /* What was run so far, by kind. */
 struct tally {
     uint64_t codec_sheets;
@@ -28,14 +40,13 @@ struct tally {
     uint64_t figures;
     uint64_t least_intervals;
     uint64_t least_intervals_of_none;
-    uint64_t lists;
-    uint64_t lists_of_eight;
-    uint64_t lists_with_lowest_late;
-    uint64_t other_empty_lists;
-    /* Lists that hold some of the choices and not all, and those of them with more than four tasks. */
-    uint64_t partial_lists;
-    uint64_t long_partial_lists;
-    uint64_t listed_choices;
+    /* Sheets whose tasks all have an assured time and those of which some have none, of both those that the other rule judges otherwise, and the shared ones, which are refused. */
+    uint64_t assured;
+    uint64_t not_assured;
+    uint64_t assured_only;
+    uint64_t passing_only;
+    uint64_t assured_refused;
+    struct list_tally lists[RULES];
     uint64_t logs;
     uint64_t replayed[REPLAY_JUDGEMENTS];
     uint64_t accepted;
@@ -67,6 +78,9 @@ void edge_round(struct comparison *comparison);
 
 /* Runs one codec round. */
 void codec_round(struct comparison *comparison, struct tally *tally, uint64_t round);
+
+/* Checks the assured times of request 12's case, which few random sheets are like. */
+void assured_edge_round(struct comparison *comparison, struct tally *tally);
 
 /* Runs one analysis round. */
 void analysis_round(struct comparison *comparison, struct tally *tally, uint64_t round);

@@ -11,7 +11,7 @@
 #include <stdlib.h>
 #include <string.h>
 
-enum { LONGEST_LINE = 1 << 16, MOST_WORDS = 16, ANSWER_ROOM = 1024 };
+enum { LONGEST_LINE = 1 << 16, MOST_WORDS = 16, ANSWER_ROOM = 1024, FEW_CHOICES = 24 };
 
 /* A row taken apart: what is asked, and how the library answers it. */
 struct row {
@@ -274,6 +274,65 @@ static void answer_release(struct row *row)
     }
 }
 
+/* Adds a choice as eight digits, or minus the refusal. */
+static void add_choice(struct row *row, int64_t choice)
+{
+    char digits[16];
+    snprintf(digits, sizeof digits, "%08" PRIx64, (uint64_t)choice);
+    if (choice < 0) {
+        add_number(row, choice);
+    } else {
+        add_word(row, digits);
+    }
+}
+
+/* Adds the assured time of each record, or none. */
+static void add_assured_times(struct row *row, const struct bytes *sheet)
+{
+    int64_t time = fq_assured_response(sheet->at, sheet->length, 0);
+    for (size_t place = 1; time >= 0; place++) {
+        if (time == 0) {
+            add_word(row, "none");
+        } else {
+            add_number(row, time);
+        }
+        time = fq_assured_response(sheet->at, sheet->length, place);
+    }
+}
+
+/* Adds how many choices a list has, and the choices if they are few. */
+static void add_choices(struct row *row, const uint8_t *list, int64_t entries)
+{
+    add_number(row, entries);
+    for (int64_t entry = 0; entry < entries && entries <= FEW_CHOICES; entry++) {
+        const uint8_t *bytes = list + 4 * entry;
+        add_choice(row, (int64_t)bytes[0] << 24 | (int64_t)bytes[1] << 16 | (int64_t)bytes[2] << 8 | bytes[3]);
+    }
+}
+
+/* SHEET AFTER: the refusal, and where there is none the assured times, the verdict, the assured choices and the one after another. */
+static void answer_assured(struct row *row)
+{
+    static struct bytes sheet;
+    static uint8_t list[FQ_LIST_BYTES];
+    read_bytes(row->word[0], &sheet);
+    int64_t entries = fq_assured_list(sheet.at, sheet.length, list, sizeof list);
+    int64_t next = fq_assured_next(sheet.at, sheet.length, (uint32_t)strtoul(row->word[1], NULL, 16));
+    add_number(row, entries < 0 ? -entries : 0);
+    if (entries < 0) {
+        add_number(row, -next);
+        add_number(row, -fq_assured_response(sheet.at, sheet.length, 0));
+        return;
+    }
+    add_assured_times(row, &sheet);
+    add_word(row, "verdict");
+    add_number(row, fq_verdict(sheet.at, sheet.length));
+    add_word(row, "list");
+    add_choices(row, list, entries);
+    add_word(row, "next");
+    add_choice(row, next);
+}
+
 /* What answers the rows of a file, by the end of its name, and how many words are asked. */
 static const struct kind {
     const char *name;
@@ -289,6 +348,7 @@ static const struct kind {
     {"ask-12-runs.txt", 2, answer_run},
     {"ask-13-cores.txt", 2, answer_cores},
     {"ask-14-release.txt", 3, answer_release},
+    {"assured.txt", 2, answer_assured},
 };
 
 /* The kind of a file. */

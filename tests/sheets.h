@@ -70,8 +70,20 @@ struct draft box_draft(struct generator *generator, unsigned longest);
 /* A good draft of 5 to 8 tasks whose highest task is late only by a sum that takes 31 or more bits. */
 struct draft heavy_draft(struct generator *generator);
 
+/* A good draft of 1 to 4 tasks for the whole processor, with numbers so small that all states of its machine can be gone through. */
+struct draft tiny_draft(struct generator *generator);
+
+/* A good draft of three tasks like request 12's case: the rest of a backup can be carried into another task's window. */
+struct draft carrying_draft(struct generator *generator);
+
+/* Gives a draft the whole processor. */
+void set_whole(struct draft *draft);
+
 /* The bytes of a draft, good or not. */
 struct sheet packed(const struct draft *draft);
+
+/* Prints a sheet in hexadecimal, after why it is printed. */
+void print_sheet(const char *reason, const struct sheet *sheet);
 
 /* The sheet of a draft with some damage done to it; a rule or a count is broken in the draft as well. */
 struct sheet damaged_sheet(struct generator *generator, struct draft *draft, enum damage damage);

@@ -18,6 +18,8 @@ use Rattle.sheet.proofs.Agree.{filled-at, some-agree}
 use Rattle.sheet.proofs.Cases.{good-table, good-at}
 use Rattle.analysis.specs.declared.Bounds.{Bounds}
 use Rattle.analysis.specs.declared.Ordered.{Ordered}
+use Rattle.analysis.specs.declared.Rule.{Rule}
+use Rattle.analysis.specs.declared.Rule.the-variants.{Published, Low}
 use Rattle.analysis.specs.Rounding.{up}
 use Rattle.analysis.specs.Totals.{mostBelow}
 use Rattle.analysis.specs.Tasks.{Tasks, tasksOf}
@@ -26,7 +28,7 @@ use Rattle.analysis.specs.Search.{leastWithin}
 use Rattle.analysis.specs.Response.{timeElsewhere, timeItself, responseWithin, responseTime, isLate, late, passes}
 use Rattle.analysis.specs.Allowed.{levelsOf, Within}
 use Rattle.analysis.specs.Demand.{rankOf, HeldInOrder}
-use Rattle.analysis.specs.Bounds.{askedElsewhere, askedItself, askedWith, bears, borne, limitOf, limitAt, foundBounds, ownMissed, boundsOf, largestOf, withinAt, withinBounds}
+use Rattle.analysis.specs.Bounds.{askedElsewhere, askedItself, askedWith, askedLow, askedBy, bears, borne, limitOf, limitAt, backupsOf, foundBounds, ownMissed, boundsOf, largestOf, below, belowLimits, withinAt, withinBounds}
 use Rattle.analysis.proofs.Totalled.{sum-rises, most-agree, most-part}
 use Rattle.analysis.proofs.Gathered.{most-reordered, some-reordered}
 use Rattle.analysis.proofs.Reordered.{bears-held}
@@ -131,24 +133,29 @@ module _ (test : ℕ → Bool) (backup : ℕ → ℕ) (n : ℕ) where
       go false is (no high) = le-ltb v limit (omega arith) ∙ sym is
 
 -- a larger backup asks no less of any length, so that a record bears what is smaller than what it bears
-asked-rises : (s : Tasks) (i q small large : ℕ) → small ≤ large → (L : ℕ) → 1 ≤ L → askedWith s i q small L ≤ askedWith s i q large L
-unfolding askedWith askedElsewhere askedItself
-asked-rises s i q small large less L some = go (eqb q 0)
+asked-rises : (rule : Rule) (s : Tasks) (i q small large : ℕ) → small ≤ large → (L : ℕ) → 1 ≤ L → askedBy rule s i q small L ≤ askedBy rule s i q large L
+unfolding askedBy askedWith askedElsewhere askedItself askedLow
+asked-rises Low s i q small large less L some = omega (arith, mul-le-mul-left (up L (s .interval)) less)
+asked-rises Published s i q small large less L some = go (eqb q 0)
   where
     go : (is : Bool) → cond is (askedElsewhere s i small) (askedItself s i q small) L ≤ cond is (askedElsewhere s i large) (askedItself s i q large) L
     go true = omega (arith, mul-le-mul-left (up L (s .interval)) less)
     go false = omega (arith, mul-le-mul-left (up L (s .interval) - 1) less)
 
-pub bears-falls : (s : Tasks) (i q : ℕ) → Falls (bears s i q)
+-- a record bears what asks no more
+pub bears-easier : (rule other : Rule) (s : Tasks) (i q p small large : ℕ) → ((L : ℕ) → 1 ≤ L → askedBy rule s i q small L ≤ askedBy other s i p large L) → bears other s i p large ≡ true → bears rule s i q small ≡ true
 unfolding bears
-bears-falls s i q small large less is =
-    let before = on-time-within (s .at i .deadline) _ (not-true (isLate (s .at i .deadline) (leastWithin (askedWith s i q large) 1 65535)) is) in
-    let after = least-easier (askedWith s i q small) (askedWith s i q large) 65535 (asked-rises s i q small large less) (before .0) in
+bears-easier rule other s i q p small large less is =
+    let before = on-time-within (s .at i .deadline) _ (not-true (isLate (s .at i .deadline) (leastWithin (askedBy other s i p large) 1 65535)) is) in
+    let after = least-easier (askedBy rule s i q small) (askedBy other s i p large) 65535 less (before .0) in
     ap not (within-on-time (s .at i .deadline) _ (after .0) (omega arith))
 
+pub bears-falls : (rule : Rule) (s : Tasks) (i q : ℕ) → Falls (bears rule s i q)
+bears-falls rule s i q small large less = bears-easier rule rule s i q q small large (asked-rises rule s i q small large less)
+
 -- a record that runs at its own priority has no tasks between, so that a lower fault priority and a larger backup ask no less
-own-least : (s : Tasks) (i q small large : ℕ) → 1 ≤ q → q ≤ s .at i .priority → small ≤ large → (L : ℕ) → 1 ≤ L → askedWith s i (s .at i .priority) small L ≤ askedWith s i q large L
-unfolding askedWith askedItself
+own-least : (s : Tasks) (i q small large : ℕ) → 1 ≤ q → q ≤ s .at i .priority → small ≤ large → (L : ℕ) → 1 ≤ L → askedBy Published s i (s .at i .priority) small L ≤ askedBy Published s i q large L
+unfolding askedBy askedWith askedItself
 own-least s i q small large some low less L long =
     rw (ne-eqb q 0 (λ z. omega arith), ne-eqb (s .at i .priority) 0 (λ z. omega arith)) (omega (arith, mul-le-mul-left (up L (s .interval) - 1) less, sum-rises (s .count) (λ k below. fewer k)))
   where
@@ -164,12 +171,8 @@ own-least s i q small large some low less L long =
         go (yes h) = rw (lt-ltb (s .at i .priority) (s .at k .priority) h, le-ltb (s .at k .priority) (s .at i .priority) (omega arith)) (omega arith)
         go (no h) = rw (le-ltb (s .at i .priority) (s .at k .priority) (omega arith)) (omega arith)
 
-bears-own : (s : Tasks) (i q small large : ℕ) → 1 ≤ q → q ≤ s .at i .priority → small ≤ large → bears s i q large ≡ true → bears s i (s .at i .priority) small ≡ true
-unfolding bears
-bears-own s i q small large some low less is =
-    let before = on-time-within (s .at i .deadline) _ (not-true (isLate (s .at i .deadline) (leastWithin (askedWith s i q large) 1 65535)) is) in
-    let after = least-easier (askedWith s i (s .at i .priority) small) (askedWith s i q large) 65535 (own-least s i q small large some low less) (before .0) in
-    ap not (within-on-time (s .at i .deadline) _ (after .0) (omega arith))
+bears-own : (s : Tasks) (i q small large : ℕ) → 1 ≤ q → q ≤ s .at i .priority → small ≤ large → bears Published s i q large ≡ true → bears Published s i (s .at i .priority) small ≡ true
+bears-own s i q small large some low less = bears-easier Published Published s i (s .at i .priority) q small large (own-least s i q small large some low less)
 
 -- a task is late exactly if it is so struck elsewhere or struck itself
 late-either : (s : Tasks) (i : ℕ) → late s i ≡ (isLate (s .at i .deadline) (timeElsewhere 65535 s i) || isLate (s .at i .deadline) (timeItself 65535 s i))
@@ -196,6 +199,12 @@ late-either s i = go (s .at i .deadline) (timeElsewhere 65535 s i) (timeItself 6
         cases (no p) (yes z) = simp (ne-eqb a 0 p, eq-eqb b 0 z) (sym (or-true (ltb D a)))
         cases (no p) (no q) = simp (ne-eqb a 0 p, ne-eqb b 0 q, ne-eqb (max a b) 0 (λ z. omega arith)) (larger D a b)
 
+-- a choice plays no part in what is asked with any backup
+bears-faultless : (rule : Rule) (t : Table) (interval : ℕ) (c d : List ℕ) (i q backup : ℕ) → bears rule (tasksOf t interval c) i q backup ≡ bears rule (tasksOf t interval d) i q backup
+unfolding bears askedBy askedWith askedElsewhere askedItself askedLow
+bears-faultless Published t interval c d i q backup = refl
+bears-faultless Low t interval c d i q backup = refl
+
 -- the bounds of a good table, and a choice that it has
 module _ (t : Table) (good : tableRefusal t ≡ 0) where
   -- the tasks that the bounds are found for, and those of the choice
@@ -205,45 +214,47 @@ module _ (t : Table) (good : tableRefusal t ≡ 0) where
   abbrev backupAt : ℕ → ℕ
   backupAt k = recordAt (t .records) k .backup
 
-  abbrev limitFor : ℕ → ℕ → ℕ
-  limitFor place q = limitOf (bears plain place q) backupAt (t .count)
+  abbrev pub limitFor : Rule → ℕ → ℕ → ℕ
+  limitFor rule place q = limitOf (bears rule plain place q) backupAt (t .count)
 
   -- the limit kept for a record and a fault priority that it can have
-  limit-kept : (place q : ℕ) → place < t .count → q ≤ recordAt (t .records) place .priority → getD (foundBounds t .limits) (9 * place + q) 0 ≡ limitFor place q
+  pub limit-kept : (rule : Rule) (place q : ℕ) → place < t .count → q ≤ recordAt (t .records) place .priority → getD (foundBounds rule t .limits) (9 * place + q) 0 ≡ limitFor rule place q
   unfolding foundBounds limitAt
-  limit-kept place q below low =
+  limit-kept rule place q below low =
       let few = good-table t good .count .1 in
       let high = good-at (t .count) (recordAt (t .records)) (good-table t good .records) place below .priority .1 in
       let row : (9 * place + q) / 9 ≡ place = omega arith in
       let column : (9 * place + q) % 9 ≡ q = omega arith in
-      filled-at (λ k. limitAt t (k / 9) (k % 9)) (9 * t .count) (replicate 72 0) 0 (omega arith) (9 * place + q) (omega arith)
-      ∙ ap₂ (limitAt t) row column
+      filled-at (λ k. limitAt rule t (k / 9) (k % 9)) (9 * t .count) (replicate 72 0) 0 (omega arith) (9 * place + q) (omega arith)
+      ∙ ap₂ (limitAt rule t) row column
       ∙ simp (le-leb q (recordAt (t .records) place .priority) low)
+
+  -- the largest backup of some records is below a limit exactly if it is borne
+  pub borne-below : (rule : Rule) (place q : ℕ) (meant : ℕ → Bool)
+      → ltb (mostBelow (λ k. cond (meant k) (backupAt k) 0) (t .count)) (limitFor rule place q) ≡ bears rule plain place q (mostBelow (λ k. cond (meant k) (backupAt k) 0) (t .count))
+  borne-below rule place q meant = limit-exact (bears rule plain place q) backupAt (t .count) (bears-falls rule plain place q) _ (largest-within (bears rule plain place q) backupAt (t .count) meant)
 
   module _ (choice : List ℕ) where
     abbrev chosen : Tasks
     chosen = tasksOf t (t .interval) choice
 
     -- M and N of the choice, out of the backups kept
-    largest-kept : (meant : ℕ → Bool) (level : ℕ) → largestOf (foundBounds t .backups) choice meant level (t .count) ≡ largestBackup chosen meant level
-    unfolding largestOf largestBackup backupOf foundBounds
+    largest-kept : (meant : ℕ → Bool) (level : ℕ) → largestOf (backupsOf t) choice meant level (t .count) ≡ largestBackup chosen meant level
+    unfolding largestOf largestBackup backupOf backupsOf
     largest-kept meant level =
         most-agree (t .count) (λ k below. ap (λ (b : ℕ). cond (meant k && leb level (getD choice k 0)) b 0) (filled-at backupAt (t .count) (replicate 8 0) 0 (good-table t good .count .1) k below))
 
-    -- a largest backup is below a limit exactly if it is borne
-    below-limit : (place q : ℕ) (meant : ℕ → Bool) (level : ℕ) → ltb (largestBackup chosen meant level) (limitFor place q) ≡ bears plain place q (largestBackup chosen meant level)
+    below-limit : (place q : ℕ) (meant : ℕ → Bool) (level : ℕ) → ltb (largestBackup chosen meant level) (limitFor Published place q) ≡ bears Published plain place q (largestBackup chosen meant level)
     unfolding largestBackup backupOf
-    below-limit place q meant level =
-        limit-exact (bears plain place q) backupAt (t .count) (bears-falls plain place q) (largestBackup chosen meant level)
-        (largest-within (bears plain place q) backupAt (t .count) (λ k. meant k && leb level (getD choice k 0)))
+    below-limit place q meant level = borne-below Published place q (λ k. meant k && leb level (getD choice k 0))
 
     module _ (allowed : Within t choice) (place : ℕ) (below : place < t .count) where
-      bears-elsewhere : bears plain place 0 (backupElsewhere chosen place) ≡ not (isLate (recordAt (t .records) place .deadline) (timeElsewhere 65535 chosen place))
-      unfolding bears askedWith
+      bears-elsewhere : bears Published plain place 0 (backupElsewhere chosen place) ≡ not (isLate (recordAt (t .records) place .deadline) (timeElsewhere 65535 chosen place))
+      unfolding bears askedBy askedWith
       bears-elsewhere = ap (λ (n : ℕ). not (isLate (recordAt (t .records) place .deadline) n)) (sym (elsewhere-asked 65535 t (t .interval) choice place))
 
-      bears-itself : bears plain place (getD choice place 0) (backupFromFault chosen place) ≡ not (isLate (recordAt (t .records) place .deadline) (timeItself 65535 chosen place))
-      unfolding bears askedWith
+      bears-itself : bears Published plain place (getD choice place 0) (backupFromFault chosen place) ≡ not (isLate (recordAt (t .records) place .deadline) (timeItself 65535 chosen place))
+      unfolding bears askedBy askedWith
       bears-itself =
           let some = allowed place below .0 in
           simp (ne-eqb (getD choice place 0) 0 (λ z. omega arith)) (ap (λ (n : ℕ). not (isLate (recordAt (t .records) place .deadline) n)) (sym (itself-asked 65535 t (t .interval) choice place)))
@@ -267,27 +278,27 @@ module _ (t : Table) (good : tableRefusal t ≡ 0) where
               absurd (true≢false (sym missed ∙ ap not borne-too))
 
       -- its N and its M under the choice are below its limits exactly if it is on time struck itself, and struck elsewhere
-      itself-below : ltb (largestOf (foundBounds t .backups) choice everyone (getD choice place 0) (t .count)) (getD (foundBounds t .limits) (9 * place + getD choice place 0) 0)
+      itself-below : ltb (largestOf (backupsOf t) choice everyone (getD choice place 0) (t .count)) (getD (foundBounds Published t .limits) (9 * place + getD choice place 0) 0)
           ≡ not (isLate (recordAt (t .records) place .deadline) (timeItself 65535 chosen place))
       unfolding backupFromFault
       itself-below =
-          ap₂ ltb (largest-kept everyone (getD choice place 0)) (limit-kept place (getD choice place 0) below (allowed place below .1))
+          ap₂ ltb (largest-kept everyone (getD choice place 0)) (limit-kept Published place (getD choice place 0) below (allowed place below .1))
           ∙ below-limit place (getD choice place 0) everyone (getD choice place 0)
           ∙ bears-itself
 
-      elsewhere-below : ltb (largestOf (foundBounds t .backups) choice (others place) (getD (levelsOf t) place 0) (t .count)) (getD (foundBounds t .limits) (9 * place) 0)
+      elsewhere-below : ltb (largestOf (backupsOf t) choice (others place) (getD (levelsOf t) place 0) (t .count)) (getD (foundBounds Published t .limits) (9 * place) 0)
           ≡ not (isLate (recordAt (t .records) place .deadline) (timeElsewhere 65535 chosen place))
       unfolding backupElsewhere
       elsewhere-below =
           let level = level-at t (good-table t good .count .1) place below in
           let index : 9 * place ≡ 9 * place + 0 = omega arith in
-          ap₂ ltb (ap (λ (p : ℕ). largestOf (foundBounds t .backups) choice (others place) p (t .count)) level ∙ largest-kept (others place) (recordAt (t .records) place .priority))
-          (ap (λ (k : ℕ). getD (foundBounds t .limits) k 0) index ∙ limit-kept place 0 below (omega arith))
+          ap₂ ltb (ap (λ (p : ℕ). largestOf (backupsOf t) choice (others place) p (t .count)) level ∙ largest-kept (others place) (recordAt (t .records) place .priority))
+          (ap (λ (k : ℕ). getD (foundBounds Published t .limits) k 0) index ∙ limit-kept Published place 0 below (omega arith))
           ∙ below-limit place 0 (others place) (recordAt (t .records) place .priority)
           ∙ bears-elsewhere
 
-      pub within-late : not (withinAt (foundBounds t) choice place) ≡ late chosen place
-      unfolding withinAt foundBounds
+      pub within-late : not (withinAt Published (foundBounds Published t) choice place) ≡ late chosen place
+      unfolding withinAt belowLimits below foundBounds
       within-late =
           let high = good-at (t .count) (recordAt (t .records)) (good-table t good .records) place below .priority .1 in
           let few = good-table t good .count .1 in
@@ -302,30 +313,38 @@ module _ (t : Table) (good : tableRefusal t ≡ 0) where
           neither-late false true = refl
           neither-late false false = refl
 
-  -- a choice stays within the bounds exactly if it passes
-  pub within-passes : (choice : List ℕ) → Within t choice → withinBounds (boundsOf t) choice ≡ passes (tasksOf t (t .interval) choice)
-  unfolding withinBounds boundsOf passes foundBounds
-  within-passes choice allowed =
-      let found : boundsOf t ≡ foundBounds t = simp (eq-eqb (tableRefusal t) 0 good) in
-      ap (λ (b : Bounds). withinBounds b choice) found
-      ∙ ap₂ _&&_ (le-leb (t .count) 8 (good-table t good .count .1)) (ap not (some-agree (t .count) (λ place below. within-late choice allowed place below)))
+  -- a choice stays within the bounds exactly if each record is within its limits
+  pub within-each : (rule : Rule) (choice : List ℕ) (missed : ℕ → Bool) → ((place : ℕ) → place < t .count → not (withinAt rule (foundBounds rule t) choice place) ≡ missed place)
+      → withinBounds rule (boundsOf rule t) choice ≡ not (someBelow missed (t .count))
+  unfolding withinBounds boundsOf foundBounds
+  within-each rule choice missed each =
+      let found : boundsOf rule t ≡ foundBounds rule t = simp (eq-eqb (tableRefusal t) 0 good) in
+      ap (λ (b : Bounds). withinBounds rule b choice) found
+      ∙ ap₂ _&&_ (le-leb (t .count) 8 (good-table t good .count .1)) (ap not (some-agree (t .count) each))
+
+  -- under the published equations that is exactly if it passes
+  pub within-passes : (choice : List ℕ) → Within t choice → withinBounds Published (boundsOf Published t) choice ≡ passes (tasksOf t (t .interval) choice)
+  unfolding passes
+  within-passes choice allowed = within-each Published choice (late (tasksOf t (t .interval) choice)) (within-late choice allowed)
 
   -- the limit found with the table held in order
-  module _ (choice : List ℕ) (held : Ordered) (order : HeldInOrder t choice held) (place q : ℕ) (below : place < t .count) where
+  module _ (choice : List ℕ) (held : Ordered) (order : HeldInOrder t choice held) (rule : Rule) (place q : ℕ) (below : place < t .count) where
     abbrev backupHeld : ℕ → ℕ
     backupHeld k = recordAt (held .table .records) k .backup
 
-    bears-there : (backup : ℕ) → bears (tasksOf (held .table) (t .interval) []) (rankOf t place) q backup ≡ bears plain place q backup
-    unfolding bears askedWith askedElsewhere askedItself
-    bears-there backup = bears-held (tasksOf t (t .interval) choice) (tasksOf (held .table) (t .interval) (held .faults)) (rankOf t) (same-tasks t choice held order good (t .interval)) place below q backup
+    pub bears-there : (backup : ℕ) → bears rule (tasksOf (held .table) (t .interval) []) (rankOf t place) q backup ≡ bears rule plain place q backup
+    bears-there backup =
+        bears-faultless rule (held .table) (t .interval) [] (held .faults) (rankOf t place) q backup
+        ∙ bears-held (tasksOf t (t .interval) choice) (tasksOf (held .table) (t .interval) (held .faults)) (rankOf t) (same-tasks t choice held order good (t .interval)) place below rule q backup
+        ∙ bears-faultless rule t (t .interval) choice [] place q backup
 
-    pub limit-there : q ≤ recordAt (t .records) place .priority → limitOf (bears (tasksOf (held .table) (held .table .interval) []) (rankOf t place) q) backupHeld (held .table .count) ≡ limitAt t place q
+    pub limit-there : q ≤ recordAt (t .records) place .priority → limitOf (bears rule (tasksOf (held .table) (held .table .interval) []) (rankOf t place) q) backupHeld (held .table .count) ≡ limitAt rule t place q
     unfolding limitAt limitOf
     limit-there low =
-        ap (λ (interval : ℕ). limitOf (bears (tasksOf (held .table) interval []) (rankOf t place) q) backupHeld (held .table .count)) (order .interval)
+        ap (λ (interval : ℕ). limitOf (bears rule (tasksOf (held .table) interval []) (rankOf t place) q) backupHeld (held .table .count)) (order .interval)
         ∙ ap₂ (λ (test : ℕ → Bool) (n : ℕ). limitOf test backupHeld n) (fun-ext bears-there) (order .count)
-        ∙ ap (λ (most : ℕ). max most (borne (bears plain place q) 0))
-        (sym (most-reordered (t .count) (rankOf t) (ranks t good) (λ k. borne (bears plain place q) (backupHeld k))) ∙ most-agree (t .count) (λ k h. ap (λ (r : Record). borne (bears plain place q) (r .backup)) (order .task k h)))
+        ∙ ap (λ (most : ℕ). max most (borne (bears rule plain place q) 0))
+        (sym (most-reordered (t .count) (rankOf t) (ranks t good) (λ k. borne (bears rule plain place q) (backupHeld k))) ∙ most-agree (t .count) (λ k h. ap (λ (r : Record). borne (bears rule plain place q) (r .backup)) (order .task k h)))
         ∙ sym (simp (le-leb q (recordAt (t .records) place .priority) low))
 
   -- where some record misses its own backup no choice passes
@@ -341,5 +360,5 @@ module _ (t : Table) (good : tableRefusal t ≡ 0) where
   missed-there choice held order =
       ap (λ (interval : ℕ). someBelow (ownMissed (tasksOf (held .table) interval [])) (t .count)) (order .interval)
       ∙ sym (some-reordered (t .count) (rankOf t) (ranks t good) (ownMissed (tasksOf (held .table) (t .interval) [])))
-      ∙ some-agree (t .count) (λ place below. ap (λ (r : Record). not (bears (tasksOf (held .table) (t .interval) []) (rankOf t place) (r .priority) (r .backup))) (order .task place below)
-      ∙ ap not (bears-there choice held order place (recordAt (t .records) place .priority) below (backupAt place)))
+      ∙ some-agree (t .count) (λ place below. ap (λ (r : Record). not (bears Published (tasksOf (held .table) (t .interval) []) (rankOf t place) (r .priority) (r .backup))) (order .task place below)
+      ∙ ap not (bears-there choice held order Published place (recordAt (t .records) place .priority) below (backupAt place)))

@@ -143,16 +143,20 @@ allowed-exactly t good choice eight = (
     at place w (yes below) = subst (λ (p : ℕ). isAllowed p (getD choice place 0) ≡ true) (sym (level place below)) (allowed-for _ _ (some place below) .1 (w .each place below))
     at place w (no over) = subst (λ (p : ℕ). isAllowed p (getD choice place 0) ≡ true) (sym (level-past t place (omega arith))) (allowed-past _ .1 (w .past place (omega arith)))
 
+-- a choice that does not get 13
+pub allowed-kept : (t : Table) → tableRefusal t ≡ 0 → (choice : List ℕ) → length choice ≡ 8 → _≡_ {A = ℕ} (cond (allAllowed (levelsOf t) choice) 0 13) 0 → Within t choice
+allowed-kept t good choice eight e = allowed-exactly t good choice eight .0 (kept (allAllowed (levelsOf t) choice) e) .each
+  where
+    kept : (b : Bool) → _≡_ {A = ℕ} (cond b 0 13) 0 → b ≡ true
+    kept true z = refl
+    kept false z = absurd (suc-ne-zero 12 z)
+
 -- a choice that is not refused is one of a good table
 pub choice-good : (t : Table) (choice : List ℕ) → length choice ≡ 8 → choiceRefusal t choice ≡ 0 → (tableRefusal t ≡ 0) × Within t choice
 unfolding choiceRefusal
 choice-good t choice eight e =
     let both = none-of (tableRefusal t) (cond (allAllowed (levelsOf t) choice) 0 13) e in
-    (both .0, allowed-exactly t (both .0) choice eight .0 (kept (allAllowed (levelsOf t) choice) (both .1)) .each)
-  where
-    kept : (b : Bool) → _≡_ {A = ℕ} (cond b 0 13) 0 → b ≡ true
-    kept true z = refl
-    kept false z = absurd (suc-ne-zero 12 z)
+    (both .0, allowed-kept t (both .0) choice eight (both .1))
 
 -- the table's own fault priorities
 module _ (t : Table) where

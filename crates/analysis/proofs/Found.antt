@@ -1,4 +1,4 @@
--- What each climb finds: the time struck elsewhere and the time struck itself, with any largest backup; and which backup a choice brings there. Assumes nothing.
+-- What each climb finds: the time struck elsewhere, the time struck itself and the time by "low", with any largest backup; and which backup a choice brings there. Assumes nothing.
 use Prim.Native.Nat.{ℕ, _+_, _-_, _≤_, _<_}
 use mathlib.Core.Path.{_≡_, refl, sym, ap, _∙_}
 use mathlib.Core.List.{List, []}
@@ -12,16 +12,16 @@ use Rattle.analysis.specs.Equations.{isBetween, struckElsewhere, struckI
 use Rattle.analysis.specs.Search.{leastWithin}
 use Rattle.analysis.specs.Response.{timeElsewhere, timeItself}
 use Rattle.analysis.specs.Demand.{Sorted, Chosen, largestBefore, runsOf, demandOf}
-use Rattle.analysis.specs.Bounds.{askedElsewhere, askedItself}
+use Rattle.analysis.specs.Bounds.{askedElsewhere, askedItself, askedLow}
 use Rattle.analysis.proofs.Climbing.{Short, least-agree, least-later}
-use Rattle.analysis.proofs.Tied.{last, elsewhere-tied, itself-tied, itself-base, elsewhere-backup, itself-backup}
+use Rattle.analysis.proofs.Tied.{last, elsewhere-tied, itself-tied, itself-base, low-tied, elsewhere-backup, itself-backup}
 
 module _ (t : Table) (interval : ℕ) (sorted : Sorted t) (i : ℕ) (low : i < t .count) (limit : ℕ) where
   -- the tasks that the climb is about
   abbrev tasks : Tasks
   tasks = tasksOf t interval []
 
-  -- both equations ask their base of every length, so that no length below it is enough
+  -- the equations ask their base of every length, so that no length below it is enough
   short-elsewhere : (M : ℕ) → Short (askedElsewhere tasks i M) 1 (recordAt (t .records) i .cost)
   unfolding askedElsewhere
   short-elsewhere M k above below = omega arith
@@ -44,6 +44,17 @@ module _ (t : Table) (interval : ℕ) (sorted : Sorted t) (i : ℕ) (low : i < t
         (λ j. leastWithin (demandOf tasks (record { base = b j; rank = i; until = t .count - fault; backup = N; paid = p j })) (b j) limit)
         ∙ least-agree _ (askedItself tasks i fault N) _ limit (λ L above. itself-tied t interval sorted i low fault fits N L often (omega (arith, sorted .cost i low)))
         ∙ least-later (askedItself tasks i fault N) 1 _ limit (omega (arith, sorted .cost i low)) (short-itself N)
+
+    short-low : (N : ℕ) → Short (askedLow tasks i fault N) 1 (recordAt (t .records) i .cost)
+    unfolding askedLow
+    short-low N k above below = omega arith
+
+    pub low-found : {base : ℕ} (N : ℕ) → base ≡ recordAt (t .records) i .cost
+        → leastWithin (demandOf tasks (record { base = base; rank = i; until = t .count - fault; backup = N; paid = 0 })) base limit ≡ leastWithin (askedLow tasks i fault N) 1 limit
+    low-found N b =
+        (λ j. leastWithin (demandOf tasks (record { base = b j; rank = i; until = t .count - fault; backup = N; paid = 0 })) (b j) limit)
+        ∙ least-agree _ (askedLow tasks i fault N) _ limit (λ L above. low-tied t interval sorted i low fault fits N L)
+        ∙ least-later (askedLow tasks i fault N) 1 _ limit (sorted .cost i low) (short-low N)
 
 -- the equations are these with the M and N of the fault priorities
 module _ (limit : ℕ) (t : Table) (interval : ℕ) (faults : List ℕ) (i : ℕ) where

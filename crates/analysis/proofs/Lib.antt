@@ -21,5 +21,8 @@ pub mod EachTick
 pub mod Demands
 pub mod Halving
 pub mod Borne
+pub mod Raised
+pub mod Lowered
+pub mod Judging
 pub mod Refused
 pub mod Unique

@@ -9,6 +9,8 @@ use Rattle.sheet.specs.declared.Record.{Record}
 use Rattle.sheet.specs.Places.{someBelow}
 use Rattle.sheet.proofs.Agree.{some-agree}
 use Rattle.sheet.proofs.Onto.{Numbering}
+use Rattle.analysis.specs.declared.Rule.{Rule}
+use Rattle.analysis.specs.declared.Rule.the-variants.{Published, Low}
 use Rattle.analysis.specs.Rounding.{up}
 use Rattle.analysis.specs.Totals.{sumBelow, mostBelow}
 use Rattle.analysis.specs.Tasks.{Tasks}
@@ -17,7 +19,7 @@ use Rattle.analysis.specs.Equations.{supplierOf, isBetween, struckElsewh
 use Rattle.analysis.specs.Search.{leastWithin}
 use Rattle.analysis.specs.Response.{timeElsewhere, timeItself, responseWithin, responseTime, isLate, late, passes}
 use Rattle.analysis.specs.Answers.{entryFrom, entryOf}
-use Rattle.analysis.specs.Bounds.{askedElsewhere, askedItself, askedWith, bears}
+use Rattle.analysis.specs.Bounds.{askedElsewhere, askedItself, askedWith, askedLow, askedBy, bears}
 use Rattle.analysis.proofs.Totalled.{sum-agree, most-agree}
 use Rattle.analysis.proofs.Gathered.{sum-reordered, most-reordered, some-reordered}
 
@@ -101,14 +103,27 @@ module _ (s held : Tasks) (rank : ℕ → ℕ) (same : SameTasks s held rank) wh
     unfolding struckItself isBetween askedItself
     itself-held L = asked-itself-held (s .fault i) (backupFromFault s i) L ∙ ap₂ (λ (q N : ℕ). askedItself held (rank i) q N L) (sym (same .fault i low)) backup-itself-held
 
-    -- whether it bears a backup
-    pub bears-held : (q backup : ℕ) → bears held (rank i) q backup ≡ bears s i q backup
-    unfolding bears askedWith
-    bears-held q backup = ap₂ (λ (D : ℕ) (f : ℕ → ℕ). not (isLate D (leastWithin f 1 65535))) (ap (λ (r : Record). r .deadline) (same .task i low)) (sym (fun-ext (asked (eqb q 0))))
+    pub asked-low-held : (q N L : ℕ) → askedLow s i q N L ≡ askedLow held (rank i) q N L
+    unfolding askedLow
+    asked-low-held q N L =
+        simp (same .task i low, same .interval, same .round, same .share)
+        (ap (λ (a : ℕ). s .at i .cost + a + up L (s .interval) * N + supplierOf (s .round) (s .share) L)
+        (sum-held (λ k. cond (others i k && ltb q (s .at k .priority)) (up L (s .at k .period) * s .at k .cost) 0) (λ k. cond (others (rank i) k && ltb q (held .at k .priority)) (up L (held .at k .period) * held .at k .cost) 0)
+        (λ k h. ap₂ (λ (b : Bool) (r : Record). cond (b && ltb q (r .priority)) (up L (r .period) * r .cost) 0) (others-held i k low h) (same .task k h))))
+
+    asked-held : (rule : Rule) (q backup L : ℕ) → askedBy rule s i q backup L ≡ askedBy rule held (rank i) q backup L
+    unfolding askedBy askedWith
+    asked-held Published q backup L = asked (eqb q 0)
       where
-        asked : (is : Bool) (L : ℕ) → cond is (askedElsewhere s i backup) (askedItself s i q backup) L ≡ cond is (askedElsewhere held (rank i) backup) (askedItself held (rank i) q backup) L
-        asked true L = asked-elsewhere-held backup L
-        asked false L = asked-itself-held q backup L
+        asked : (is : Bool) → cond is (askedElsewhere s i backup) (askedItself s i q backup) L ≡ cond is (askedElsewhere held (rank i) backup) (askedItself held (rank i) q backup) L
+        asked true = asked-elsewhere-held backup L
+        asked false = asked-itself-held q backup L
+    asked-held Low q backup L = asked-low-held q backup L
+
+    -- whether it bears a backup, under either rule
+    pub bears-held : (rule : Rule) (q backup : ℕ) → bears rule held (rank i) q backup ≡ bears rule s i q backup
+    unfolding bears
+    bears-held rule q backup = ap₂ (λ (D : ℕ) (f : ℕ → ℕ). not (isLate D (leastWithin f 1 65535))) (ap (λ (r : Record). r .deadline) (same .task i low)) (sym (fun-ext (asked-held rule q backup)))
 
     time-elsewhere-held : (limit : ℕ) → timeElsewhere limit s i ≡ timeElsewhere limit held (rank i)
     unfolding timeElsewhere

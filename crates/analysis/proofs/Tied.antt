@@ -1,10 +1,10 @@
--- The one demand that the code computes over records held from the highest priority to the lowest, tied to the two equations; and it rises with the length. Assumes nothing.
+-- The one demand that the code computes over records held from the highest priority to the lowest, tied to the equations; and it rises with the length. Assumes nothing.
 use Prim.Native.Nat.{ℕ, zero, suc, _+_, _-_, _*_, _≤_, _<_}
-use mathlib.Core.Path.{_≡_, refl, sym, _∙_}
-use mathlib.Core.Bool.{true, false, cond, not, _&&_}
+use mathlib.Core.Path.{_≡_, refl, sym, ap, ap₂, _∙_}
+use mathlib.Core.Bool.{true, false, cond, not, _&&_, and-true, and-false}
 use mathlib.Core.List.{List, []}
 use native.Mathlib.Nat.{add-le-add, mul-le-mul-right, suc-mul}
-use native.Mathlib.Decide.{ℕ-discrete}
+use native.Mathlib.Decide.{ℕ-discrete, decLt}
 use native.Mathlib.Omega.{arith}
 use borrow.Author.Tests.{eq-eqb, ne-eqb, lt-ltb, le-ltb, lt-leb}
 use lib.Dec.{eqb, ltb}
@@ -18,10 +18,10 @@ use Rattle.analysis.specs.Totals.{sumBelow}
 use Rattle.analysis.specs.Tasks.{Tasks, tasksOf}
 use Rattle.analysis.specs.Backups.{others, everyone, backupOf, largestBackup, backupElsewhere, backupFromFault}
 use Rattle.analysis.specs.Equations.{supplierOf}
-use Rattle.analysis.specs.Bounds.{askedElsewhere, askedItself}
+use Rattle.analysis.specs.Bounds.{askedElsewhere, askedItself, askedLow}
 use Rattle.analysis.specs.Demand.{Sorted, Chosen, largestBefore, runsOf, loadOf, demandOf}
 use Rattle.analysis.proofs.Rounding.{up-rises, up-some, up-one}
-use Rattle.analysis.proofs.Totalled.{sum-plus, sum-rises, sum-from}
+use Rattle.analysis.proofs.Totalled.{sum-agree, sum-plus, sum-rises, sum-from}
 use Rattle.analysis.proofs.Gathered.{sum-until, most-until}
 
 -- the demand rises with the length
@@ -98,18 +98,58 @@ module _ (t : Table) (interval : ℕ) (sorted : Sorted t) (i : ℕ) (low : i < t
     once-more : (L k : ℕ) → k < t .count → (1 + up L (recordAt (t .records) k .period)) * recordAt (t .records) k .cost ≡ run L k + run 1 k
     once-more L k below = rw (up-one (recordAt (t .records) k .period) (sorted .period k below)) (omega arith)
 
-    abbrev between : ℕ → ℕ → ℕ
-    between L k = cond (ltb fault (priority k) && ltb (priority k) (priority i)) ((1 + up L (recordAt (t .records) k .period)) * recordAt (t .records) k .cost) 0
+    between-from : (g : ℕ → ℕ) → sumBelow (λ k. cond (ltb fault (priority k) && ltb (priority k) (priority i)) (g k) 0) (t .count) ≡ sumBelow (λ k. g (i + 1 + k)) (last - (i + 1))
+    between-from g =
+        let here = sorted .priority i low in
+        sum-until between between last (t .count) (omega arith) (λ k before. refl) (λ k after below. rw (le-ltb fault (priority k) (omega (arith, sorted .priority k below))) refl)
+        ∙ sum-from between g (i + 1) last
+        (λ k before below. rw (lt-ltb fault (priority k) (omega (arith, sorted .priority k (omega arith))), le-ltb (priority k) (priority i) (omega (arith, sorted .priority k (omega arith)))) refl)
+        (λ k after below. rw (lt-ltb fault (priority k) (omega (arith, sorted .priority k (omega arith))), lt-ltb (priority k) (priority i) (omega (arith, sorted .priority k (omega arith)))) refl)
+      where
+        between : ℕ → ℕ
+        between k = cond (ltb fault (priority k) && ltb (priority k) (priority i)) (g k) 0
 
-    between-tied : (L : ℕ) → sumBelow (between L) (t .count) ≡ runsOf tasks (i + 1) last L + runsOf tasks (i + 1) last 1
+    between-tied : (L : ℕ) → sumBelow (λ k. cond (ltb fault (priority k) && ltb (priority k) (priority i)) ((1 + up L (recordAt (t .records) k .period)) * recordAt (t .records) k .cost) 0) (t .count)
+        ≡ runsOf tasks (i + 1) last L + runsOf tasks (i + 1) last 1
     unfolding runsOf
     between-tied L =
-        let here = sorted .priority i low in
-        sum-until (between L) (between L) last (t .count) (omega arith) (λ k before. refl) (λ k after below. rw (le-ltb fault (priority k) (omega (arith, sorted .priority k below))) refl)
-        ∙ sum-from (between L) (λ k. run L k + run 1 k) (i + 1) last
-        (λ k before below. rw (lt-ltb fault (priority k) (omega (arith, sorted .priority k (omega arith))), le-ltb (priority k) (priority i) (omega (arith, sorted .priority k (omega arith)))) refl)
-        (λ k after below. rw (lt-ltb fault (priority k) (omega (arith, sorted .priority k (omega arith))), lt-ltb (priority k) (priority i) (omega (arith, sorted .priority k (omega arith)))) (once-more L k (omega arith)))
+        between-from (λ k. (1 + up L (recordAt (t .records) k .period)) * recordAt (t .records) k .cost)
+        ∙ sum-agree (last - (i + 1)) (λ k below. once-more L (i + 1 + k) (omega arith))
         ∙ sum-plus (λ k. run L (i + 1 + k)) (λ k. run 1 (i + 1 + k)) (last - (i + 1))
+
+    -- "each other task with priority above q of i": those before it, and those after it and before the last
+    over-tied : (L : ℕ) → sumBelow (λ k. cond (others i k && ltb fault (priority k)) (run L k) 0) (t .count) ≡ runsOf tasks 0 i L + runsOf tasks (i + 1) last L
+    unfolding runsOf others
+    over-tied L =
+        sum-agree (t .count) split
+        ∙ sum-plus (λ k. cond (ltb (priority i) (priority k)) (run L k) 0) (λ k. cond (ltb fault (priority k) && ltb (priority k) (priority i)) (run L k) 0) (t .count)
+        ∙ ap₂ _+_ (above-tied L) (between-from (run L))
+      where
+        split : (k : ℕ) → k < t .count → cond (not (eqb k i) && ltb fault (priority k)) (run L k) 0
+            ≡ cond (ltb (priority i) (priority k)) (run L k) 0 + cond (ltb fault (priority k) && ltb (priority k) (priority i)) (run L k) 0
+        split k below = go (ℕ-discrete k i) (decLt k i)
+          where
+            go : Dec (k ≡ i) → Dec (k < i) → cond (not (eqb k i) && ltb fault (priority k)) (run L k) 0
+                ≡ cond (ltb (priority i) (priority k)) (run L k) 0 + cond (ltb fault (priority k) && ltb (priority k) (priority i)) (run L k) 0
+            go (yes e) side =
+                let same = ap priority e in
+                rw (eq-eqb k i e, le-ltb (priority i) (priority k) (omega arith), le-ltb (priority k) (priority i) (omega arith), and-false (ltb fault (priority k))) refl
+            go (no other) (yes before) =
+                let here = sorted .priority i low in
+                let there = sorted .priority k below in
+                rw (ne-eqb k i other, lt-ltb fault (priority k) (omega arith), lt-ltb (priority i) (priority k) (omega arith), le-ltb (priority k) (priority i) (omega arith)) (omega arith)
+            go (no other) (no after) =
+                let here = sorted .priority i low in
+                let there = sorted .priority k below in
+                rw (ne-eqb k i other, le-ltb (priority i) (priority k) (omega arith), lt-ltb (priority k) (priority i) (omega arith), and-true (ltb fault (priority k))) (omega arith)
+
+    -- the demand that stands for "low", with any N
+    abbrev pub demandLow : ℕ → Demand
+    demandLow N = record { base = recordAt (t .records) i .cost; rank = i; until = last; backup = N; paid = 0 }
+
+    pub low-tied : (N L : ℕ) → demandOf tasks (demandLow N) L ≡ askedLow tasks i fault N L
+    unfolding demandOf loadOf askedLow
+    low-tied N L = omega (arith, over-tied L)
 
     -- the demand that stands for the equation of a task struck itself, with any N, from a length of 1 on
     abbrev pub demandItself : ℕ → Demand

@@ -66,3 +66,15 @@ sum-from f g a (suc n) before after = go (decLt n a) (sum-from f g a n (λ k l h
         let one : suc n - a ≡ suc (n - a) = omega arith in
         let here : a + (n - a) ≡ n = omega arith in
         rw one (ap₂ _+_ rest (after n (omega arith) (omega arith) ∙ ap g (sym here)))
+
+-- a sum of nothing
+pub sum-none : (f : ℕ → ℕ) (n : ℕ) → ((k : ℕ) → k < n → f k ≡ 0) → sumBelow f n ≡ 0
+unfolding sumBelow
+sum-none f zero none = refl
+sum-none f (suc n) none = omega (arith, sum-none f n (λ k below. none k (omega arith)), none n (omega arith))
+
+-- what bounds the value of each place bounds the largest
+pub most-within : (f : ℕ → ℕ) (n bound : ℕ) → ((k : ℕ) → k < n → f k ≤ bound) → mostBelow f n ≤ bound
+unfolding mostBelow
+most-within f zero bound each = omega arith
+most-within f (suc n) bound each = omega (arith, most-within f n bound (λ k below. each k (omega arith)), each n (omega arith))

@@ -1,6 +1,6 @@
--- The largest backup that each record bears, found once for a table, and what it then is for a choice to pass. An inner device of the walk and the list: the calls `bounds_of` and `passes_within` promise it, and a law says that it is passing.
+-- The largest backup that each record bears, found once for a table, and what it then is for a choice to hold, by either rule. An inner device of the walk and the list: the calls `bounds_of` and `holds_within` promise it, and laws say that it is passing, and being assured.
 use Prim.Native.Nat.{ℕ, _+_, _-_, _*_, _/_, _%_, max}
-use mathlib.Core.Bool.{Bool, cond, not, _&&_}
+use mathlib.Core.Bool.{Bool, cond, not, _&&_, _||_}
 use mathlib.Core.List.{List, []}
 use lib.Dec.{eqb, leb, ltb}
 use lib.ListN.{getD, replicate}
@@ -9,6 +9,8 @@ use Rattle.sheet.specs.Places.{someBelow, filledBelow}
 use Rattle.sheet.specs.Layout.{recordAt}
 use Rattle.sheet.specs.Rules.{tableRefusal}
 use Rattle.analysis.specs.declared.Bounds.{Bounds}
+use Rattle.analysis.specs.declared.Rule.{Rule}
+use Rattle.analysis.specs.declared.Rule.the-variants.{Published, Low}
 use Rattle.analysis.specs.Rounding.{up}
 use Rattle.analysis.specs.Totals.{sumBelow, mostBelow}
 use Rattle.analysis.specs.Tasks.{Tasks, tasksOf}
@@ -39,9 +41,22 @@ askedItself s i q N L =
 unfoldable pub askedWith : Tasks → ℕ → ℕ → ℕ → ℕ → ℕ
 askedWith s i q backup = cond (eqb q 0) (askedElsewhere s i backup) (askedItself s i q backup)
 
+-- "low", with any q and N: "C, plus up(L, T) × C for each other task with priority above q of i, plus up(L, E) × N", and the supplier's term, which is nothing on a whole processor
+unfoldable pub askedLow : Tasks → ℕ → ℕ → ℕ → ℕ → ℕ
+askedLow s i q N L =
+    s .at i .cost
+    + sumBelow (λ k. cond (others i k && ltb q (s .at k .priority)) (up L (s .at k .period) * s .at k .cost) 0) (s .count)
+    + up L (s .interval) * N
+    + supplierOf (s .round) (s .share) L
+
+-- what is asked of a length by a largest backup under a rule
+unfoldable pub askedBy : Rule → Tasks → ℕ → ℕ → ℕ → ℕ → ℕ
+askedBy Published = askedWith
+askedBy Low = askedLow
+
 -- whether record i is on time with that
-unfoldable pub bears : Tasks → ℕ → ℕ → ℕ → Bool
-bears s i q backup = not (isLate (s .at i .deadline) (leastWithin (askedWith s i q backup) 1 65535))
+unfoldable pub bears : Rule → Tasks → ℕ → ℕ → ℕ → Bool
+bears rule s i q backup = not (isLate (s .at i .deadline) (leastWithin (askedBy rule s i q backup) 1 65535))
 
 -- a backup and one more where it is borne, else 0
 unfoldable pub borne : (ℕ → Bool) → ℕ → ℕ
@@ -52,32 +67,36 @@ unfoldable pub limitOf : (ℕ → Bool) → (ℕ → ℕ) → ℕ → ℕ
 limitOf test backup n = max (mostBelow (λ k. borne test (backup k)) n) (borne test 0)
 
 -- the limit of the record at a place for q, 0 past its priority
-unfoldable pub limitAt : Table → ℕ → ℕ → ℕ
-limitAt t place q =
+unfoldable pub limitAt : Rule → Table → ℕ → ℕ → ℕ
+limitAt rule t place q =
     cond (leb q (recordAt (t .records) place .priority))
-    (limitOf (bears (tasksOf t (t .interval) []) place q) (λ k. recordAt (t .records) k .backup) (t .count)) 0
+    (limitOf (bears rule (tasksOf t (t .interval) []) place q) (λ k. recordAt (t .records) k .backup) (t .count)) 0
 
 -- no bounds: those of a refused table
 abbrev pub noBounds : Bounds
 noBounds = record { count = 0; priorities = replicate 8 0; backups = replicate 8 0; limits = replicate 72 0 }
 
--- each record's priority, backup and limits, each limit at 9 times the place plus q
-unfoldable pub foundBounds : Table → Bounds
-foundBounds t =
+-- the backups of the records in record order, in eight entries, 0 past the count
+unfoldable pub backupsOf : Table → List ℕ
+backupsOf t = filledBelow (λ place. recordAt (t .records) place .backup) (t .count) (replicate 8 0)
+
+-- each record's priority, backup and limits under a rule, each limit at 9 times the place plus q
+unfoldable pub foundBounds : Rule → Table → Bounds
+foundBounds rule t =
     record {
       count = t .count;
       priorities = levelsOf t;
-      backups = filledBelow (λ place. recordAt (t .records) place .backup) (t .count) (replicate 8 0);
-      limits = filledBelow (λ k. limitAt t (k / 9) (k % 9)) (9 * t .count) (replicate 72 0);
+      backups = backupsOf t;
+      limits = filledBelow (λ k. limitAt rule t (k / 9) (k % 9)) (9 * t .count) (replicate 72 0);
     }
 
 -- `bounds_of`
-unfoldable pub boundsOf : Table → Bounds
-boundsOf t = cond (eqb (tableRefusal t) 0) (foundBounds t) noBounds
+unfoldable pub boundsOf : Rule → Table → Bounds
+boundsOf rule t = cond (eqb (tableRefusal t) 0) (foundBounds rule t) noBounds
 
 -- `is_hopeless`: whether some record of a good table does not bear its own backup though it runs at its own priority, and so is late under every choice
 unfoldable pub ownMissed : Tasks → ℕ → Bool
-ownMissed s i = not (bears s i (s .at i .priority) (s .at i .backup))
+ownMissed s i = not (bears Published s i (s .at i .priority) (s .at i .backup))
 
 unfoldable pub hopeless : Table → Bool
 hopeless t = eqb (tableRefusal t) 0 && someBelow (ownMissed (tasksOf t (t .interval) [])) (t .count)
@@ -86,13 +105,30 @@ hopeless t = eqb (tableRefusal t) 0 && someBelow (ownMissed (tasksOf t (t .inter
 unfoldable pub largestOf : List ℕ → List ℕ → (ℕ → Bool) → ℕ → ℕ → ℕ
 largestOf backups choice meant level = mostBelow (λ k. cond (meant k && leb level (getD choice k 0)) (getD backups k 0) 0)
 
--- whether M and N of the record at a place are below its limits
-unfoldable pub withinAt : Bounds → List ℕ → ℕ → Bool
-withinAt b choice place =
-    leb (getD choice place 0) 8
-    && (ltb (largestOf (b .backups) choice everyone (getD choice place 0) (b .count)) (getD (b .limits) (9 * place + getD choice place 0) 0)
-    && ltb (largestOf (b .backups) choice (others place) (getD (b .priorities) place 0) (b .count)) (getD (b .limits) (9 * place) 0))
+-- the largest backup among n records of "i itself, the tasks with q above q of i, and the tasks with q equal to q of i and a priority above p of i", or 0
+unfoldable pub largestAhead : List ℕ → List ℕ → List ℕ → ℕ → ℕ → ℕ
+largestAhead backups priorities choice place =
+    mostBelow
+    (λ k. cond
+    (eqb k place || (ltb (getD choice place 0) (getD choice k 0) || (eqb (getD choice k 0) (getD choice place 0) && ltb (getD priorities place 0) (getD priorities k 0))))
+    (getD backups k 0) 0)
 
--- `passes_within`: whether they are for each record
-unfoldable pub withinBounds : Bounds → List ℕ → Bool
-withinBounds b choice = leb (b .count) 8 && not (someBelow (λ place. not (withinAt b choice place)) (b .count))
+-- whether M and N of the record at a place, of n, are below a limit for struck itself and one for struck elsewhere; under "low", whether its N is below the first
+unfoldable pub below : Rule → List ℕ → List ℕ → List ℕ → ℕ → ℕ → ℕ → ℕ → Bool
+below Published backups priorities choice n place limit limitElsewhere =
+    ltb (largestOf backups choice everyone (getD choice place 0) n) limit
+    && ltb (largestOf backups choice (others place) (getD priorities place 0) n) limitElsewhere
+below Low backups priorities choice n place limit limitElsewhere = ltb (largestAhead backups priorities choice place n) limit
+
+-- whether they are below its limits
+unfoldable pub belowLimits : Rule → Bounds → List ℕ → ℕ → Bool
+belowLimits rule b choice place =
+    below rule (b .backups) (b .priorities) choice (b .count) place (getD (b .limits) (9 * place + getD choice place 0) 0) (getD (b .limits) (9 * place) 0)
+
+-- whether the record at a place has a fault priority up to 8 and is within its limits for it
+unfoldable pub withinAt : Rule → Bounds → List ℕ → ℕ → Bool
+withinAt rule b choice place = leb (getD choice place 0) 8 && belowLimits rule b choice place
+
+-- `holds_within`: whether each record is
+unfoldable pub withinBounds : Rule → Bounds → List ℕ → Bool
+withinBounds rule b choice = leb (b .count) 8 && not (someBelow (λ place. not (withinAt rule b choice place)) (b .count))

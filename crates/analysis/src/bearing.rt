@@ -11,81 +11,97 @@ ghost use Rattle.sheet.specs.Rules.{tableRefusal};
 ghost use Rattle.analysis.specs.Tasks.{tasksOf};
 ghost use Rattle.analysis.specs.Backups.{others, everyone};
 ghost use Rattle.analysis.specs.Demand.{HeldInOrder, Sorted};
-ghost use Rattle.analysis.specs.Bounds.{bears, borne, limitOf, limitAt, noBounds, foundBounds, ownMissed, largestOf, withinAt};
+ghost use Rattle.analysis.specs.Allowed.{levelsOf};
+ghost use Rattle.analysis.specs.Search.{leastWithin};
+ghost use Rattle.analysis.specs.Bounds.{askedWith, bears, borne, limitOf, limitAt, noBounds, backupsOf, foundBounds, ownMissed, largestOf, below, withinAt};
 use crate::Bounds;
+use crate::Columns;
 use crate::Ordered;
+use crate::Rule;
+use crate::low;
 use crate::order;
 use crate::response;
 use crate::workload;
 use sheet::Table;
 
-// Whether the record at a rank of a table held in order is on time with a largest backup: as M where the fault priority is 0, else as N.
-fn bears(table: Table, rank: usize, fault: u8, backup: u16) -> bool
+// The time by the published equations of the record at a rank with a largest backup, or 0: as M where the fault priority is 0, else as N.
+fn published_with(table: Table, rank: usize, fault: u8, backup: u16, limit: u64) -> u64
+    requires { ⌜ (Sorted table) × (1 ≤ table .interval) × (rank < table .count) × (fault + rank ≤ table .count) × (limit < 65536) ⌝ }
+    ensures { λ r. ⌜ r ≡ leastWithin (askedWith (tasksOf table (table .interval) []) rank fault backup) 1 limit ⌝ }
+{
+    if fault == 0 {
+        return response::elsewhere_with(table, table.interval, rank, backup, limit);
+    }
+    response::itself_with(table, table.interval, rank, fault, backup, limit)
+}
+
+// Whether the record at a rank of a table held in order is on time with a largest backup under a rule.
+pub fn bears(table: Table, rank: usize, fault: u8, backup: u16, rule: Rule) -> bool
     requires { ⌜ (Sorted table) × (1 ≤ table .interval) × (rank < table .count) × (fault + rank ≤ table .count) ⌝ }
-    ensures { λ r. ⌜ r ≡ bears (tasksOf table (table .interval) []) rank fault backup ⌝ }
+    ensures { λ r. ⌜ r ≡ bears rule (tasksOf table (table .interval) []) rank fault backup ⌝ }
 {
     let task = table.records[rank];
     let limit = workload::wide(task.deadline);
-    if fault == 0 {
-        return response::elsewhere_with(table, table.interval, rank, backup, limit) != 0;
+    match rule {
+        Rule::Published => published_with(table, rank, fault, backup, limit) != 0,
+        Rule::Low => low::low_with(table, table.interval, rank, fault, backup, limit) != 0,
     }
-    response::itself_with(table, table.interval, rank, fault, backup, limit) != 0
 }
 
 // The limit so far, or one more than a backup that is borne. A backup below the limit so far needs no search.
-fn raised(table: Table, rank: usize, fault: u8, backup: u16, limit: u32) -> u32
+fn raised(table: Table, rank: usize, fault: u8, backup: u16, limit: u32, rule: Rule) -> u32
     requires { ⌜ (Sorted table) × (1 ≤ table .interval) × (rank < table .count) × (fault + rank ≤ table .count) ⌝ }
-    ensures { λ r. ⌜ r ≡ max limit (borne (bears (tasksOf table (table .interval) []) rank fault) backup) ⌝ }
+    ensures { λ r. ⌜ r ≡ max limit (borne (bears rule (tasksOf table (table .interval) []) rank fault) backup) ⌝ }
 {
     let next = workload::half_wide(backup) + 1;
     if next <= limit {
         return limit;
     }
-    if bears(table, rank, fault, backup) {
+    if bears(table, rank, fault, backup, rule) {
         return next;
     }
     limit
 }
 
 // The limit of the record at a rank: over each record's backup, and over none. The largest is tried first: where it is borne, none of the others needs a search.
-fn limit(table: Table, rank: usize, fault: u8) -> u32
+fn limit(table: Table, rank: usize, fault: u8, rule: Rule) -> u32
     requires { ⌜ (Sorted table) × (1 ≤ table .interval) × (rank < table .count) × (fault + rank ≤ table .count) ⌝ }
-    ensures { λ r. ⌜ r ≡ limitOf (bears (tasksOf table (table .interval) []) rank fault) (λ k. recordAt (table .records) k .backup) (table .count) ⌝ }
+    ensures { λ r. ⌜ r ≡ limitOf (bears rule (tasksOf table (table .interval) []) rank fault) (λ k. recordAt (table .records) k .backup) (table .count) ⌝ }
 {
     let count = table.count as usize;
     let largest = workload::largest(table, [0u8; 8], count, 0);
-    let mut most = raised(table, rank, fault, largest, 0);
+    let mut most = raised(table, rank, fault, largest, 0, rule);
     let mut other: usize = 0;
     while other < count {
         let backup = table.records[other].backup;
-        most = raised(table, rank, fault, backup, most);
+        most = raised(table, rank, fault, backup, most, rule);
         other += 1;
     }
-    raised(table, rank, fault, 0, most)
+    raised(table, rank, fault, 0, most, rule)
 }
 
 // The limit of the record at a place, 0 past its priority.
-fn limit_at(table: Table, held: Ordered, place: usize, fault: u8) -> u32
+fn limit_at(table: Table, held: Ordered, place: usize, fault: u8, rule: Rule) -> u32
     requires { ⌜ (tableRefusal table ≡ 0) × (HeldInOrder table (replicate 8 0) held) × (place < table .count) ⌝ }
-    ensures { λ r. ⌜ r ≡ limitAt table place fault ⌝ }
+    ensures { λ r. ⌜ r ≡ limitAt rule table place fault ⌝ }
 {
     if table.records[place].priority < fault {
         return 0;
     }
-    limit(held.table, order::rank_of(table, place), fault)
+    limit(held.table, order::rank_of(table, place), fault, rule)
 }
 
-// Every limit of a good table.
-fn limits_of(table: Table) -> [u32; 72]
+// Every limit of a good table under a rule.
+fn limits_of(table: Table, rule: Rule) -> [u32; 72]
     requires { ⌜ tableRefusal table ≡ 0 ⌝ }
-    ensures { λ r. ⌜ r ≡ filledBelow (λ k. limitAt table (k / 9) (k % 9)) (9 * table .count) (replicate 72 0) ⌝ }
+    ensures { λ r. ⌜ r ≡ filledBelow (λ k. limitAt rule table (k / 9) (k % 9)) (9 * table .count) (replicate 72 0) ⌝ }
 {
     let held = order::ordered(table, [0u8; 8]);
     let end = 9 * table.count as usize;
     let mut limits = [0u32; 72];
     let mut at: usize = 0;
     while at < end {
-        limits[at] = limit_at(table, held, at / 9, (at % 9) as u8);
+        limits[at] = limit_at(table, held, at / 9, (at % 9) as u8, rule);
         at += 1;
     }
     limits
@@ -102,7 +118,7 @@ pub fn some_missed(table: Table) -> bool
     let mut rank: usize = 0;
     while rank < count {
         let task = ordered.records[rank];
-        if bears(ordered, rank, task.priority, task.backup) {
+        if bears(ordered, rank, task.priority, task.backup, Rule::Published) {
             rank += 1;
         } else {
             return true;
@@ -123,10 +139,10 @@ pub fn none() -> Bounds
     }
 }
 
-// The bounds of a good table.
-pub fn found(table: Table) -> Bounds
+// The priorities and the backups of the records of a good table, in record order.
+pub fn columns_of(table: Table) -> Columns
     requires { ⌜ tableRefusal table ≡ 0 ⌝ }
-    ensures { λ r. ⌜ r ≡ foundBounds table ⌝ }
+    ensures { λ r. ⌜ (r .priorities ≡ levelsOf table) × (r .backups ≡ backupsOf table) ⌝ }
 {
     let count = table.count as usize;
     let records = table.records;
@@ -138,7 +154,21 @@ pub fn found(table: Table) -> Bounds
         backups[place] = records[place].backup;
         place += 1;
     }
-    let limits = limits_of(table);
+    Columns {
+        priorities,
+        backups,
+    }
+}
+
+// The bounds of a good table under a rule.
+pub fn found(table: Table, rule: Rule) -> Bounds
+    requires { ⌜ tableRefusal table ≡ 0 ⌝ }
+    ensures { λ r. ⌜ r ≡ foundBounds rule table ⌝ }
+{
+    let columns = columns_of(table);
+    let priorities = columns.priorities;
+    let backups = columns.backups;
+    let limits = limits_of(table, rule);
     Bounds {
         count: table.count,
         priorities,
@@ -228,13 +258,49 @@ fn elsewhere_within(
     workload::half_wide(largest_other(backups, choice, count, place, level)) < limit
 }
 
-// Whether each record's M and N under a choice are below its limits.
-pub fn within(bounds: Bounds, choice: [u8; 8]) -> bool
+// Whether the record at a place is below its limits under a rule. The top at its fault priority is its N under the published equations; under "low" it is no smaller, and often small enough.
+fn within_at(
+    tops: [u16; 9],
+    backups: [u16; 8],
+    priorities: [u8; 8],
+    choice: [u8; 8],
+    count: usize,
+    place: usize,
+    entry: u8,
+    limit: u32,
+    limit_elsewhere: u32,
+    rule: Rule,
+) -> bool
+    requires { ⌜ (count ≤ 8) × (place < count) × (entry ≤ 8) × (entry ≡ getD choice place 0) × ((at : ℕ) → at < 9 → getD tops at 0 ≡ largestOf backups choice everyone at count) ⌝ }
+    ensures { λ r. ⌜ r ≡ below rule backups priorities choice count place limit «limit_elsewhere» ⌝ }
+{
+    let top = workload::half_wide(tops[entry as usize]);
+    match rule {
+        Rule::Published => {
+            if limit <= top {
+                return false;
+            }
+            let level = priorities[place];
+            elsewhere_within(tops, backups, choice, count, place, level, limit_elsewhere)
+        }
+        Rule::Low => {
+            if top < limit {
+                return true;
+            }
+            let ahead = low::largest_ahead(backups, priorities, choice, count, place);
+            workload::half_wide(ahead) < limit
+        }
+    }
+}
+
+// Whether each record is within its limits under a rule.
+pub fn within(bounds: Bounds, choice: [u8; 8], rule: Rule) -> bool
     requires { ⌜ bounds .count ≤ 8 ⌝ }
-    ensures { λ r. ⌜ r ≡ not (someBelow (λ place. not (withinAt bounds choice place)) (bounds .count)) ⌝ }
+    ensures { λ r. ⌜ r ≡ not (someBelow (λ place. not (withinAt rule bounds choice place)) (bounds .count)) ⌝ }
 {
     let count = bounds.count as usize;
     let backups = bounds.backups;
+    let priorities = bounds.priorities;
     let tops = tops_of(backups, choice, count);
     let mut place: usize = 0;
     while place < count {
@@ -243,12 +309,19 @@ pub fn within(bounds: Bounds, choice: [u8; 8]) -> bool
             return false;
         }
         let limit = bounds.limits[9 * place + entry as usize];
-        if limit <= workload::half_wide(tops[entry as usize]) {
-            return false;
-        }
-        let level = bounds.priorities[place];
         let limit_elsewhere = bounds.limits[9 * place];
-        if elsewhere_within(tops, backups, choice, count, place, level, limit_elsewhere) {
+        if within_at(
+            tops,
+            backups,
+            priorities,
+            choice,
+            count,
+            place,
+            entry,
+            limit,
+            limit_elsewhere,
+            rule,
+        ) {
             place += 1;
         } else {
             return false;

@@ -2,7 +2,8 @@
 // Every call answers any table: a refused one gets its number, beside zeros, no, or nothing else.
 ghost use mathlib.Core.Path.{_≡_};
 ghost use Rattle.analysis.specs.Answers.{timedRefusal, timedAnswer, choiceRefusal, assessmentOf, choiceAssessment, ownAssessment, intervalAnswer};
-ghost use Rattle.analysis.specs.Tasks.{tasksOf};
+ghost use Rattle.analysis.specs.Tasks.{tasksOf, ownChoice};
+ghost use Rattle.analysis.specs.Judged.{ruleRefusal, judgedRefusal, holdsAnswer, lowAnswer};
 ghost use Rattle.analysis.specs.Allowed.{Within};
 ghost use Rattle.analysis.specs.Bounds.{hopeless, boundsOf, withinBounds};
 ghost use Rattle.sheet.specs.Rules.{tableRefusal};
@@ -10,6 +11,8 @@ use sheet::Table;
 
 mod allowed;
 mod bearing;
+mod judged;
+mod low;
 mod order;
 mod response;
 mod search;
@@ -54,7 +57,13 @@ pub enum Interval {
     Nothing,
 }
 
-// One of the two equations as the code computes it, for the record at a rank: a base, the records before the rank and those after it and before the last,
+// The rule that a choice of fault priorities is judged by: the published equations, or "low".
+pub enum Rule {
+    Published,
+    Low,
+}
+
+// One of the equations as the code computes it, for the record at a rank: a base, the records before the rank and those after it and before the last,
 // the backup paid for each fault, and what is already paid.
 pub struct Demand {
     pub base: u64,
@@ -71,7 +80,13 @@ pub struct Ordered {
     pub places: [usize; 8],
 }
 
-// How large a backup each record of a table bears: the records' priorities and backups in record order, and the limits of each, one more than the largest
+// The priorities and the backups of a table's records in record order, 0 past the count.
+pub struct Columns {
+    pub priorities: [u8; 8],
+    pub backups: [u16; 8],
+}
+
+// How large a backup each record of a table bears under a rule: the records' priorities and backups in record order, and the limits of each, one more than the largest
 // backup that it bears or 0; for the record at a place as M at 9 times the place, as N under a fault priority q at 9 times the place plus q.
 pub struct Bounds {
     pub count: u8,
@@ -106,11 +121,22 @@ pub fn response_time(table: Table, place: usize) -> Timed
     Timed { refusal: 0, entry }
 }
 
-// The refusal of a choice of fault priorities: the table's own, then 13.
-pub fn judge_choice(table: Table, choice: [u8; 8]) -> u8
-    ensures { λ r. ⌜ r ≡ choiceRefusal table choice ⌝ }
+// The refusal of a table under a rule: the table's own, then 19 where the rule speaks of the whole processor.
+pub fn judge_rule(table: Table, rule: Rule) -> u8
+    ensures { λ r. ⌜ r ≡ ruleRefusal rule table ⌝ }
 {
     let refusal = sheet::judge_table(table);
+    if refusal != 0 {
+        return refusal;
+    }
+    judged::judge_shared(table.round, table.share, rule)
+}
+
+// The refusal of a choice under a rule: that of the table, then 13.
+pub fn judge_choice_by(table: Table, choice: [u8; 8], rule: Rule) -> u8
+    ensures { λ r. ⌜ r ≡ judgedRefusal rule table choice ⌝ }
+{
+    let refusal = judge_rule(table, rule);
     if refusal != 0 {
         return refusal;
     }
@@ -119,6 +145,13 @@ pub fn judge_choice(table: Table, choice: [u8; 8]) -> u8
     } else {
         13
     }
+}
+
+// The refusal of a choice of fault priorities: the table's own, then 13.
+pub fn judge_choice(table: Table, choice: [u8; 8]) -> u8
+    ensures { λ r. ⌜ r ≡ choiceRefusal table choice ⌝ }
+{
+    judge_choice_by(table, choice, Rule::Published)
 }
 
 // The refusal, or what is asked of a good table under a choice: without times, the search ends at the first late task.
@@ -179,22 +212,55 @@ pub fn is_hopeless(table: Table) -> bool
     bearing::some_missed(table)
 }
 
-// How large a backup each record bears, found by at most ten searches for each record and each fault priority that it can have, and for M.
-pub fn bounds_of(table: Table) -> Bounds
-    ensures { λ r. ⌜ r ≡ boundsOf table ⌝ }
+// How large a backup each record bears under a rule, found by at most ten searches for each record and each fault priority that it can have, and for M.
+pub fn bounds_of(table: Table, rule: Rule) -> Bounds
+    ensures { λ r. ⌜ r ≡ boundsOf rule table ⌝ }
 {
     if sheet::judge_table(table) != 0 {
         return bearing::none();
     }
-    bearing::found(table)
+    bearing::found(table, rule)
 }
 
-// Whether a choice stays within bounds: for those of a good table and a choice that it has, whether it passes.
-pub fn passes_within(bounds: Bounds, choice: [u8; 8]) -> bool
-    ensures { λ r. ⌜ r ≡ withinBounds bounds choice ⌝ }
+// Whether a choice stays within bounds under a rule: for those of a good table and a choice that it has, whether it holds by the rule.
+pub fn holds_within(bounds: Bounds, choice: [u8; 8], rule: Rule) -> bool
+    ensures { λ r. ⌜ r ≡ withinBounds rule bounds choice ⌝ }
 {
     if 8 < bounds.count {
         return false;
     }
-    bearing::within(bounds, choice)
+    bearing::within(bounds, choice, rule)
+}
+
+// Whether a choice holds by a rule: passes, or is assured. Where it is refused, no.
+pub fn holds(table: Table, choice: [u8; 8], rule: Rule) -> bool
+    ensures { λ r. ⌜ r ≡ holdsAnswer rule table choice ⌝ }
+{
+    if judge_choice_by(table, choice, rule) != 0 {
+        return false;
+    }
+    match rule {
+        Rule::Published => response::passes(table, choice),
+        Rule::Low => judged::assured(table, choice),
+    }
+}
+
+// The assured time of the record at a place under a choice, or late; where it is refused, 0.
+pub fn low_time(table: Table, choice: [u8; 8], place: usize) -> Outcome
+    ensures { λ r. ⌜ r ≡ lowAnswer table choice place ⌝ }
+{
+    if judge_choice_by(table, choice, Rule::Low) != 0 {
+        return Outcome::OnTime(0);
+    }
+    if table.count as usize <= place {
+        return Outcome::OnTime(0);
+    }
+    judged::low_outcome(table, choice, place)
+}
+
+// The fault priorities that a table has itself, 0 past the count.
+pub fn own_choice(table: Table) -> [u8; 8]
+    ensures { λ r. ⌜ r ≡ ownChoice table ⌝ }
+{
+    response::own_choice(table)
 }

@@ -23,7 +23,7 @@ use crate::workload;
 use sheet::Table;
 
 // The longest response time that is searched for.
-const LONGEST: u16 = 65535;
+pub const LONGEST: u16 = 65535;
 
 // The time of the record at a rank when faults strike other tasks only, with a largest backup, or 0. No length below the base is enough, so the climb starts there.
 pub fn elsewhere_with(table: Table, interval: u16, rank: usize, backup: u16, limit: u64) -> u64
@@ -111,7 +111,7 @@ fn response(table: Table, interval: u16, faults: [u8; 8], rank: usize, limit: u6
 }
 
 // A response time, 0 for none, as an outcome.
-fn outcome(deadline: u16, time: u16) -> Outcome
+pub fn outcome(deadline: u16, time: u16) -> Outcome
     ensures { λ r. ⌜ r ≡ outcomeOf deadline time ⌝ }
 {
     if time == 0 {

@@ -1,9 +1,10 @@
--- From one choice to the next that passes: what stepping through the choices keeps, over any good table. Assumes nothing.
+-- From one choice to the next for which a test holds: what stepping through the choices keeps, over any good table. Assumes nothing.
 use Prim.Native.Nat.{ℕ, _≤_, _<_}
 use mathlib.Core.Path.{_≡_, refl, sym, ap, _∙_, subst}
 use mathlib.Core.Bool.{Bool, true, false, cond, _||_}
 use mathlib.Core.List.{List, [], _∷_}
 use mathlib.Core.Logic.{_↔_}
+use native.Mathlib.Nat.{suc-ne-zero}
 use native.Mathlib.Decide.{ℕ-discrete}
 use native.Mathlib.Omega.{arith}
 use lib.ListN.{length, getD}
@@ -11,28 +12,31 @@ use Rattle.sheet.specs.declared.Table.{Table}
 use Rattle.sheet.specs.Places.{orElse}
 use Rattle.sheet.specs.Layout.{recordAt}
 use Rattle.sheet.specs.Rules.{tableRefusal}
-use Rattle.sheet.proofs.Turns.{next-of, first-of}
+use Rattle.sheet.proofs.Turns.{none-of, next-of, first-of}
 use Rattle.sheet.proofs.Order.{table-in-order}
 use Rattle.sheet.proofs.Refused.{passed-if, tests}
 use Rattle.sheet.proofs.Cases.{good-table, good-at}
-use Rattle.analysis.specs.Tasks.{tasksOf}
-use Rattle.analysis.specs.Response.{passes}
-use Rattle.analysis.specs.Answers.{choiceRefusal, assessmentOf, choiceAssessment}
-use Rattle.analysis.specs.Allowed.{levelsOf, allAllowed}
 use Rattle.analysis.specs.declared.Bounds.{Bounds}
+use Rattle.analysis.specs.declared.Rule.{Rule}
+use Rattle.analysis.specs.declared.Rule.the-variants.{Published, Low}
+use Rattle.analysis.specs.Tasks.{Tasks, tasksOf}
+use Rattle.analysis.specs.Allowed.{levelsOf, allAllowed, Within}
+use Rattle.analysis.specs.Judged.{holds, ruleRefusal, judgedRefusal, holdsAnswer}
 use Rattle.analysis.specs.Bounds.{withinBounds}
 use Rattle.analysis.proofs.Choice.{allowed-exactly, allowed-length, length-levels, level-at}
 use Rattle.analysis.proofs.Borne.{within-passes}
-use Rattle.choices.specs.Choices.{choicesOf, sift, passingOf}
+use Rattle.analysis.proofs.Lowered.{within-assured}
+use Rattle.analysis.proofs.Judging.{rule-good, rule-whole, holds-given}
+use Rattle.choices.specs.Choices.{choicesOf, sift, chosen}
 use Rattle.choices.specs.Order.{allZero, afterOf}
-use Rattle.choices.specs.Answers.{walkRefusal}
+use Rattle.choices.specs.Answers.{walkRefusal, startRefusal}
 use Rattle.choices.specs.Stepping.{Knows, nextOf}
 use Rattle.choices.proofs.Sifted.{sift-keeps, sift-drops, sift-sift-commute}
 use Rattle.choices.proofs.Onward.{onward, after-next, next-allowed}
 
--- whether a table passes under a choice
-abbrev pub passesWith : Table → List ℕ → Bool
-passesWith t choice = passes (tasksOf t (t .interval) choice)
+-- whether a test of a table's tasks holds under a choice
+abbrev pub testWith : (Tasks → Bool) → Table → List ℕ → Bool
+testWith test t choice = test (tasksOf t (t .interval) choice)
 
 -- the start, or an allowed choice
 abbrev pub starts : Table → List ℕ → Bool
@@ -43,10 +47,21 @@ pub good-start : (t : Table) (start : List ℕ) → (walkRefusal t start ≡ 0) 
 unfolding walkRefusal
 good-start t start = passed-if (tableRefusal t) 13 (table-in-order t .range) (omega arith) (tests (starts t start))
 
+-- the same under a rule
+pub start-good : (rule : Rule) (t : Table) (start : List ℕ) → startRefusal rule t start ≡ 0 → (ruleRefusal rule t ≡ 0) × (starts t start ≡ true)
+unfolding startRefusal
+start-good rule t start e =
+    let both = none-of (ruleRefusal rule t) (cond (starts t start) 0 13) e in
+    (both .0, kept (starts t start) (both .1))
+  where
+    kept : (b : Bool) → _≡_ {A = ℕ} (cond b 0 13) 0 → b ≡ true
+    kept true z = refl
+    kept false z = absurd (suc-ne-zero 12 z)
+
 -- the start has the table's refusal, any other choice the choice's
-pub zero-refusal : (t : Table) (start : List ℕ) → allZero start ≡ true → tableRefusal t ≡ walkRefusal t start
-unfolding walkRefusal
-zero-refusal t start zeros = sym (simp zeros (else-none (tableRefusal t)))
+pub zero-refusal : (rule : Rule) (t : Table) (start : List ℕ) → allZero start ≡ true → ruleRefusal rule t ≡ startRefusal rule t start
+unfolding startRefusal
+zero-refusal rule t start zeros = sym (simp zeros (else-none (ruleRefusal rule t)))
   where
     else-none : (refusal : ℕ) → orElse refusal 0 ≡ refusal
     else-none refusal = go (ℕ-discrete refusal 0)
@@ -55,9 +70,9 @@ zero-refusal t start zeros = sym (simp zeros (else-none (tableRefusal t)))
         go (yes z) = next-of 0 z ∙ sym z
         go (no z) = first-of refusal 0 z
 
-pub choice-refusal : (t : Table) (start : List ℕ) → allZero start ≡ false → choiceRefusal t start ≡ walkRefusal t start
-unfolding walkRefusal choiceRefusal
-choice-refusal t start some = sym (simp some)
+pub choice-refusal : (rule : Rule) (t : Table) (start : List ℕ) → allZero start ≡ false → judgedRefusal rule t start ≡ startRefusal rule t start
+unfolding startRefusal judgedRefusal
+choice-refusal rule t start some = sym (simp some)
 
 -- the choice right after is allowed too
 pub still-allowed : (t : Table) (choice : List ℕ) → starts t choice ≡ true
@@ -68,23 +83,23 @@ still-allowed t choice start = either (allZero (nextOf (levelsOf t) choice .choi
     either true e = refl
     either false e = e
 
-module _ (t : Table) (good : tableRefusal t ≡ 0) where
-  -- a good table has a first record, with a priority of 1 at least
-  pub first-level : 1 ≤ getD (levelsOf t) 0 0
-  first-level =
-      let known = good-table t good in
-      let some : 0 < t .count = omega (arith, known .count .0) in
-      subst (λ (n : ℕ). 1 ≤ n) (sym (level-at t (known .count .1) 0 some)) (good-at (t .count) (recordAt (t .records)) (known .records) 0 some .priority .0)
+-- a good table has a first record, with a priority of 1 at least
+pub first-level : (t : Table) → tableRefusal t ≡ 0 → 1 ≤ getD (levelsOf t) 0 0
+first-level t good =
+    let known = good-table t good in
+    let some : 0 < t .count = omega (arith, known .count .0) in
+    subst (λ (n : ℕ). 1 ≤ n) (sym (level-at t (known .count .1) 0 some)) (good-at (t .count) (recordAt (t .records)) (known .records) 0 some .priority .0)
 
+module _ (test : Tasks → Bool) (t : Table) (good : tableRefusal t ≡ 0) where
   module _ (choice : List ℕ) (eight : length choice ≡ 8) (start : starts t choice ≡ true) where
     -- what comes after a choice is the next one, and what comes after that
     stepped : afterOf choice (choicesOf (levelsOf t)) ≡ onward (levelsOf t) (nextOf (levelsOf t) choice)
-    stepped = after-next (levelsOf t) choice first-level (eight ∙ sym (length-levels t)) start
+    stepped = after-next (levelsOf t) choice (first-level t good) (eight ∙ sym (length-levels t)) start
 
-    -- where there is no next choice, none that passes is left
-    pub none-left : nextOf (levelsOf t) choice .«is_there» ≡ false → afterOf choice (passingOf t) ≡ []
-    unfolding passingOf sift
-    none-left e = sift-sift-commute choice (passesWith t) (choicesOf (levelsOf t)) ∙ ap (sift (passesWith t)) (stepped ∙ ap (λ (b : Bool). cond b (nextOf (levelsOf t) choice .choice ∷ afterOf (nextOf (levelsOf t) choice .choice) (choicesOf (levelsOf t))) []) e)
+    -- where there is no next choice, none for which the test holds is left
+    pub none-left : nextOf (levelsOf t) choice .«is_there» ≡ false → afterOf choice (chosen test t) ≡ []
+    unfolding chosen sift
+    none-left e = sift-sift-commute choice (testWith test t) (choicesOf (levelsOf t)) ∙ ap (sift (testWith test t)) (stepped ∙ ap (λ (b : Bool). cond b (nextOf (levelsOf t) choice .choice ∷ afterOf (nextOf (levelsOf t) choice .choice) (choicesOf (levelsOf t))) []) e)
 
     module _ (there : nextOf (levelsOf t) choice .«is_there» ≡ true) where
       -- the next choice
@@ -98,27 +113,35 @@ module _ (t : Table) (good : tableRefusal t ≡ 0) where
       pub fewer : length (afterOf later (choicesOf (levelsOf t))) < length (afterOf choice (choicesOf (levelsOf t)))
       fewer = omega (arith, ap length onto)
 
-      -- if it passes, it is the first of those that do
-      pub passing-next : passesWith t later ≡ true → afterOf choice (passingOf t) ≡ later ∷ afterOf later (passingOf t)
-      unfolding passingOf
+      -- if the test holds for it, it is the first of those
+      pub passing-next : testWith test t later ≡ true → afterOf choice (chosen test t) ≡ later ∷ afterOf later (chosen test t)
+      unfolding chosen
       passing-next yes-it =
-          sift-sift-commute choice (passesWith t) (choicesOf (levelsOf t)) ∙ ap (sift (passesWith t)) onto ∙ sift-keeps (passesWith t) later _ yes-it
-          ∙ ap (λ (l : List (List ℕ)). later ∷ l) (sym (sift-sift-commute later (passesWith t) (choicesOf (levelsOf t))))
+          sift-sift-commute choice (testWith test t) (choicesOf (levelsOf t)) ∙ ap (sift (testWith test t)) onto ∙ sift-keeps (testWith test t) later _ yes-it
+          ∙ ap (λ (l : List (List ℕ)). later ∷ l) (sym (sift-sift-commute later (testWith test t) (choicesOf (levelsOf t))))
 
-      -- if not, those that do come after it too
-      pub failing-next : passesWith t later ≡ false → afterOf choice (passingOf t) ≡ afterOf later (passingOf t)
-      unfolding passingOf
+      -- if not, those come after it too
+      pub failing-next : testWith test t later ≡ false → afterOf choice (chosen test t) ≡ afterOf later (chosen test t)
+      unfolding chosen
       failing-next not-it =
-          sift-sift-commute choice (passesWith t) (choicesOf (levelsOf t)) ∙ ap (sift (passesWith t)) onto ∙ sift-drops (passesWith t) later _ not-it
-          ∙ sym (sift-sift-commute later (passesWith t) (choicesOf (levelsOf t)))
+          sift-sift-commute choice (testWith test t) (choicesOf (levelsOf t)) ∙ ap (sift (testWith test t)) onto ∙ sift-drops (testWith test t) later _ not-it
+          ∙ sym (sift-sift-commute later (testWith test t) (choicesOf (levelsOf t)))
 
-  -- the verdict on a good table under an allowed choice
-  pub verdict-passes : (choice : List ℕ) → allAllowed (levelsOf t) choice ≡ true → choiceAssessment t choice false .passes ≡ passesWith t choice
-  unfolding choiceAssessment assessmentOf choiceRefusal
-  verdict-passes choice allowed = simp (good, allowed, next-of 0 refl)
+-- a choice of a table that a rule does not refuse
+module _ (rule : Rule) (t : Table) (fine : ruleRefusal rule t ≡ 0) (choice : List ℕ) (allowed : allAllowed (levelsOf t) choice ≡ true) where
+  pub within-choice : Within t choice
+  within-choice = allowed-exactly t (rule-good rule t fine) choice (allowed-length (levelsOf t) choice allowed ∙ length-levels t) .0 allowed .each
 
-  -- and where its bounds are known, staying within them
-  pub known-passes : (choice : List ℕ) → allAllowed (levelsOf t) choice ≡ true → (bounds : Bounds) → Knows t bounds → (bounds .count ≡ 0 → ⊥) → withinBounds bounds choice ≡ passesWith t choice
-  known-passes choice allowed bounds knows some =
-      ap (λ (b : Bounds). withinBounds b choice) (knows some)
-      ∙ within-passes t good choice (allowed-exactly t good choice (allowed-length (levelsOf t) choice allowed ∙ length-levels t) .0 allowed .each)
+  -- whether it holds, as `holds` answers
+  pub answer-holds : holdsAnswer rule t choice ≡ testWith (holds rule) t choice
+  unfolding judgedRefusal
+  answer-holds = holds-given rule t choice (next-of {a = ruleRefusal rule t} (cond (allAllowed (levelsOf t) choice) 0 13) fine ∙ simp allowed)
+
+-- and where its bounds are known, staying within them
+pub known-holds : (rule : Rule) (t : Table) → ruleRefusal rule t ≡ 0 → (choice : List ℕ) → allAllowed (levelsOf t) choice ≡ true → (bounds : Bounds) → Knows rule t bounds → (bounds .count ≡ 0 → ⊥)
+    → withinBounds rule bounds choice ≡ testWith (holds rule) t choice
+unfolding holds
+known-holds Published t fine choice allowed bounds knows some =
+    ap (λ (b : Bounds). withinBounds Published b choice) (knows some) ∙ within-passes t (rule-good Published t fine) choice (within-choice Published t fine choice allowed)
+known-holds Low t fine choice allowed bounds knows some =
+    ap (λ (b : Bounds). withinBounds Low b choice) (knows some) ∙ within-assured t (rule-good Low t fine) (rule-whole t fine) choice (within-choice Low t fine choice allowed)

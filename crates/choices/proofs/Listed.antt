@@ -1,6 +1,6 @@
--- Going through the list of passing choices one by one: what comes after each, and that each can be gone on from. Assumes nothing.
+-- Going through the list of the choices for which a test holds one by one: what comes after each, and that each can be gone on from. Assumes nothing.
 use Prim.Native.Nat.{ℕ, zero, suc, _+_, _*_, _≤_, _<_}
-use mathlib.Core.Path.{_≡_, refl, sym, ap, _∙_, subst}
+use mathlib.Core.Path.{_≡_, refl, sym, ap, ap₂, _∙_, subst}
 use mathlib.Core.Bool.{Bool, true, false, cond, _||_, true≢false}
 use mathlib.Core.List.{List, [], _∷_, List·Memᴰ as In, List·Memᴰ·head as here}
 use native.Mathlib.Numerals.{add-one}
@@ -14,11 +14,12 @@ use Rattle.sheet.specs.Layout.{recordAt}
 use Rattle.sheet.specs.Rules.{tableRefusal}
 use Rattle.sheet.proofs.Turns.{first-of, next-of}
 use Rattle.sheet.proofs.Cases.{good-table, good-at}
+use Rattle.analysis.specs.Tasks.{Tasks}
 use Rattle.analysis.specs.Allowed.{levelsOf, allAllowed}
 use Rattle.analysis.proofs.Choice.{entry-allowed, allowed-length, alike-at, length-levels}
-use Rattle.choices.specs.Choices.{choicesOf, sift, passingOf}
+use Rattle.choices.specs.Choices.{choicesOf, sift, chosen}
 use Rattle.choices.specs.Order.{before, allZero, afterOf}
-use Rattle.choices.specs.Answers.{walkRefusal, bytesOf, listRefusal, listAnswer, listLeaves}
+use Rattle.choices.specs.Answers.{bytesOf, roomRefusal, listFrom, leavesFrom}
 use Rattle.choices.specs.declared.Found.{Found}
 use Rattle.choices.specs.Stepping.{small, foundIn}
 use Rattle.choices.proofs.Sifted.{sift-drops, sift-all}
@@ -26,7 +27,7 @@ use Rattle.choices.proofs.Allowed.{allowed-within}
 use Rattle.choices.proofs.Onward.{zero-before-sift}
 use Rattle.choices.proofs.Members.{sift-members, choices-sound}
 use Rattle.choices.proofs.Ordered.{before-irreflexive, before-asymmetric, before-transitive, Ascending, none, more, sift-ascending, choices-ascending}
-use Rattle.choices.proofs.Advancing.{passesWith, first-level}
+use Rattle.choices.proofs.Advancing.{testWith, starts, first-level}
 
 -- in an ascending list, what comes after the first one found after a start is what was found after it
 pub after-first : (w c : List ℕ) (rest : List (List ℕ)) {l : List (List ℕ)} → Ascending l → afterOf w l ≡ c ∷ rest → afterOf c l ≡ rest
@@ -44,14 +45,14 @@ after-first w c rest (more {c = d} {l = l} later up) e = go (before w d) refl (a
         let member : In c l = sift-members (before w) l .0 (subst (In c) (sym e) (here refl)) .0 in
         sift-drops (before c) d l (before-asymmetric d c (later c member)) ∙ earlier e
 
-pub passing-ascending : (t : Table) → Ascending (passingOf t)
-unfolding passingOf
-passing-ascending t = sift-ascending (passesWith t) (choices-ascending (levelsOf t))
+pub passing-ascending : (test : Tasks → Bool) (t : Table) → Ascending (chosen test t)
+unfolding chosen
+passing-ascending test t = sift-ascending (testWith test t) (choices-ascending (levelsOf t))
 
--- a passing choice is allowed
-pub passing-allowed : (t : Table) {c : List ℕ} → In c (passingOf t) → allAllowed (levelsOf t) c ≡ true
-unfolding passingOf
-passing-allowed t m = choices-sound (levelsOf t) (sift-members (passesWith t) (choicesOf (levelsOf t)) .0 m .0)
+-- a choice for which the test holds is allowed
+pub passing-allowed : (test : Tasks → Bool) (t : Table) {c : List ℕ} → In c (chosen test t) → allAllowed (levelsOf t) c ≡ true
+unfolding chosen
+passing-allowed test t m = choices-sound (levelsOf t) (sift-members (testWith test t) (choicesOf (levelsOf t)) .0 m .0)
 
 -- no entry of an allowed choice is above its level
 entry-within : (ps c : List ℕ) → allAllowed ps c ≡ true → (k : ℕ) → getD c k 0 ≤ getD ps k 0
@@ -70,7 +71,7 @@ unfolding filledBelow
 filled-within m f room empty zero each = empty
 filled-within m f room empty (suc n) each = set-within m (filledBelow f n room) n (f n) (each n (omega arith)) (filled-within m f room empty n (λ k h. each k (omega arith)))
 
-module _ (t : Table) (good : tableRefusal t ≡ 0) where
+module _ (test : Tasks → Bool) (t : Table) (good : tableRefusal t ≡ 0) where
   level-within : (k : ℕ) → getD (levelsOf t) k 0 ≤ 8
   unfolding levelsOf
   level-within =
@@ -78,36 +79,36 @@ module _ (t : Table) (good : tableRefusal t ≡ 0) where
       filled-within 8 (λ place. recordAt (t .records) place .priority) (replicate 8 0) (λ k. omega (arith, alike-at {A = ℕ} 0 8 k)) (t .count)
       (λ k h. omega (arith, good-at (t .count) (recordAt (t .records)) (known .records) k h .priority .1, known .count .1))
 
-  -- a passing choice has eight entries, each with room in four bits
-  pub passing-eight : {c : List ℕ} → In c (passingOf t) → (length c ≡ 8) × small c
+  -- such a choice has eight entries, each with room in four bits
+  pub passing-eight : {c : List ℕ} → In c (chosen test t) → (length c ≡ 8) × small c
   unfolding small
   passing-eight {c} member =
-      let allowed = passing-allowed t member in
+      let allowed = passing-allowed test t member in
       (allowed-length (levelsOf t) c allowed ∙ length-levels t, λ k. omega (arith, entry-within (levelsOf t) c allowed k, level-within k))
 
-  -- before the first choice stands every passing one
-  pub from-start : afterOf (replicate 8 0) (passingOf t) ≡ passingOf t
-  unfolding passingOf allZero
-  from-start = zero-before-sift (levelsOf t) (replicate 8 0) (passesWith t) (first-level t good) refl (sym (length-levels t))
+  -- before the first choice stands every one
+  pub from-start : afterOf (replicate 8 0) (chosen test t) ≡ chosen test t
+  unfolding chosen allZero
+  from-start = zero-before-sift (levelsOf t) (replicate 8 0) (testWith test t) (first-level t good) refl (sym (length-levels t))
 
-  pub start-allowed : walkRefusal t (replicate 8 0) ≡ 0
-  unfolding walkRefusal allZero
-  start-allowed = next-of _ good
+  pub start-allowed : starts t (replicate 8 0) ≡ true
+  unfolding allZero
+  start-allowed = refl
 
-  -- the first passing choice after another: it can be gone on from, its entries have room in four bits, and the rest comes after it
+  -- the first such choice after another: it can be gone on from, its entries have room in four bits, and the rest comes after it
   pub record Next (c : List ℕ) (rest : List (List ℕ)) : Type 0 where
-    pub going-on : walkRefusal t c ≡ 0
-    pub after : afterOf c (passingOf t) ≡ rest
+    pub going-on : starts t c ≡ true
+    pub after : afterOf c (chosen test t) ≡ rest
     pub narrow : small c
 
-  pub next-listed : (w c : List ℕ) (rest : List (List ℕ)) → afterOf w (passingOf t) ≡ c ∷ rest → Next c rest
-  unfolding walkRefusal afterOf
+  pub next-listed : (w c : List ℕ) (rest : List (List ℕ)) → afterOf w (chosen test t) ≡ c ∷ rest → Next c rest
+  unfolding afterOf
   next-listed w c rest e =
-      let member : In c (passingOf t) = sift-members (before w) (passingOf t) .0 (subst (In c) (sym e) (here refl)) .0 in
-      let allowed = passing-allowed t member in
+      let member : In c (chosen test t) = sift-members (before w) (chosen test t) .0 (subst (In c) (sym e) (here refl)) .0 in
+      let allowed = passing-allowed test t member in
       record {
-        going-on = next-of _ good ∙ ap (λ (b : Bool). cond b 0 13) (ap (λ (b : Bool). allZero c || b) allowed ∙ or-true (allZero c));
-        after = after-first w c rest (passing-ascending t) e;
+        going-on = ap (λ (b : Bool). allZero c || b) allowed ∙ or-true (allZero c);
+        after = after-first w c rest (passing-ascending test t) e;
         narrow = passing-eight member .1;
       }
     where
@@ -117,21 +118,21 @@ module _ (t : Table) (good : tableRefusal t ≡ 0) where
 
   -- a turn of going through the list: the choice found after the first n is the one at place n
   pub record Turn (n : ℕ) (c : List ℕ) : Type 0 where
-    pub below : n < length (passingOf t)
-    pub same : c ≡ getD (passingOf t) n []
-    pub after : afterOf c (passingOf t) ≡ drop (n + 1) (passingOf t)
-    pub going-on : walkRefusal t c ≡ 0
+    pub below : n < length (chosen test t)
+    pub same : c ≡ getD (chosen test t) n []
+    pub after : afterOf c (chosen test t) ≡ drop (n + 1) (chosen test t)
+    pub going-on : starts t c ≡ true
     pub narrow : small c
 
-  pub turn-listed : (w c : List ℕ) (rest : List (List ℕ)) (n : ℕ) → afterOf w (passingOf t) ≡ drop n (passingOf t) → afterOf w (passingOf t) ≡ c ∷ rest → Turn n c
+  pub turn-listed : (w c : List ℕ) (rest : List (List ℕ)) (n : ℕ) → afterOf w (chosen test t) ≡ drop n (chosen test t) → afterOf w (chosen test t) ≡ c ∷ rest → Turn n c
   turn-listed w c rest n from found =
       let next = next-listed w c rest found in
-      let some : length (drop n (passingOf t)) ≡ suc (length rest) = ap length (sym from ∙ found) in
-      let below : n < length (passingOf t) = omega (arith, length-drop n (passingOf t)) in
-      let cut = drop-cons (passingOf t) n [] below in
-      let head : c ≡ getD (passingOf t) n [] = cc in
-      let tail : rest ≡ drop (suc n) (passingOf t) = cc in
-      record { below = below; same = head; after = next .after ∙ tail ∙ ap (λ (k : ℕ). drop k (passingOf t)) (sym (add-one n)); going-on = next .going-on; narrow = next .narrow }
+      let some : length (drop n (chosen test t)) ≡ suc (length rest) = ap length (sym from ∙ found) in
+      let below : n < length (chosen test t) = omega (arith, length-drop n (chosen test t)) in
+      let cut = drop-cons (chosen test t) n [] below in
+      let head : c ≡ getD (chosen test t) n [] = cc in
+      let tail : rest ≡ drop (suc n) (chosen test t) = cc in
+      record { below = below; same = head; after = next .after ∙ tail ∙ ap (λ (k : ℕ). drop k (chosen test t)) (sym (add-one n)); going-on = next .going-on; narrow = next .narrow }
 
 -- what is found in a list is its first, and nothing only in an empty one
 pub found-there : (w : List ℕ) (l : List (List ℕ)) (f : Found) → f ≡ foundIn w l → f .«is_there» ≡ true → l ≡ f .choice ∷ drop 1 l
@@ -144,24 +145,24 @@ unfolding foundIn
 found-none w [] f e h = refl
 found-none w (c ∷ l) f e h = absurd (true≢false (sym (ap (λ (g : Found). g .«is_there») e) ∙ h))
 
--- the refusals of a list
-module _ (t : Table) (out : List ℕ) where
-  pub list-refused : (tableRefusal t ≡ 0 → ⊥) → listRefusal t out ≡ tableRefusal t
-  unfolding listRefusal
-  list-refused = first-of (tableRefusal t) _
+-- the refusals of a list, after one that comes first
+module _ (refusal : ℕ) (list : List (List ℕ)) (out : List ℕ) where
+  pub room-refused : (refusal ≡ 0 → ⊥) → roomRefusal refusal list out ≡ refusal
+  unfolding roomRefusal
+  room-refused = first-of refusal _
 
-  module _ (good : tableRefusal t ≡ 0) where
-    pub list-short : length out < 4 * length (passingOf t) → listRefusal t out ≡ 11
-    unfolding listRefusal
-    list-short h = next-of _ good ∙ simp (lt-ltb (length out) (4 * length (passingOf t)) h)
+  module _ (good : refusal ≡ 0) where
+    pub room-short : length out < 4 * length list → roomRefusal refusal list out ≡ 11
+    unfolding roomRefusal
+    room-short h = next-of {a = refusal} _ good ∙ simp (lt-ltb (length out) (4 * length list) h)
 
-    pub list-fits : 4 * length (passingOf t) ≤ length out → listRefusal t out ≡ 0
-    unfolding listRefusal
-    list-fits h = next-of _ good ∙ simp (le-ltb (length out) (4 * length (passingOf t)) h)
+    pub room-fits : 4 * length list ≤ length out → roomRefusal refusal list out ≡ 0
+    unfolding roomRefusal
+    room-fits h = next-of {a = refusal} _ good ∙ simp (le-ltb (length out) (4 * length list) h)
 
     -- an empty list fits every output, and leaves it as it was
-    pub list-empty : passingOf t ≡ [] → (listAnswer t out ≡ record { refusal = 0; entries = 0 }) × (listLeaves t out ≡ out)
-    unfolding listAnswer listLeaves bytesOf
-    list-empty empty =
-        let fits = list-fits (rw empty (omega arith)) in
-        (simp (fits, empty), simp (fits, empty))
+    pub room-empty : list ≡ [] → (listFrom (roomRefusal refusal list out) list ≡ record { refusal = 0; entries = 0 }) × (leavesFrom (roomRefusal refusal list out) list out ≡ out)
+    unfolding listFrom leavesFrom bytesOf
+    room-empty empty =
+        let fits = room-fits (rw empty (omega arith)) in
+        (ap₂ listFrom fits empty, ap₂ (λ (r : ℕ) (l : List (List ℕ)). leavesFrom r l out) fits empty)

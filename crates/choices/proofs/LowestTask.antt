@@ -1,4 +1,4 @@
--- The lowest task of a good table: there is one, looking for it place by place ends at it, and where it is late no choice passes. Assumes nothing.
+-- The lowest task of a good table: there is one, looking for it place by place ends at it, and where it is late no choice holds by either rule. Assumes nothing.
 use Prim.Native.Nat.{ℕ, _-_, _<_}
 use mathlib.Core.Path.{_≡_, refl, sym, ap, _∙_}
 use mathlib.Core.Bool.{Bool, true, false, not, _&&_, true≢false}
@@ -7,6 +7,7 @@ use native.Mathlib.Decide.{ℕ-discrete, decLt}
 use native.Mathlib.Omega.{arith}
 use borrow.Author.Tests.{eq-eqb, ne-eqb}
 use lib.Dec.{eqb}
+use lib.ListN.{getD}
 use Rattle.sheet.specs.declared.Record.{Record}
 use Rattle.sheet.specs.declared.Table.{Table}
 use Rattle.sheet.specs.Places.{someBelow}
@@ -14,9 +15,13 @@ use Rattle.sheet.specs.Layout.{recordAt}
 use Rattle.sheet.specs.Rules.{tableRefusal}
 use Rattle.sheet.proofs.Cases.{good-table}
 use Rattle.sheet.proofs.Ranks.{ranked, each-there}
+use Rattle.analysis.specs.declared.Rule.{Rule}
+use Rattle.analysis.specs.declared.Rule.the-variants.{Published, Low}
 use Rattle.analysis.specs.Tasks.{tasksOf, ownChoice}
 use Rattle.analysis.specs.Response.{responseTime, isLate, late, passes}
-use Rattle.analysis.specs.Allowed.{levelsOf, allAllowed}
+use Rattle.analysis.specs.Low.{unassured, assured}
+use Rattle.analysis.specs.Allowed.{levelsOf}
+use Rattle.analysis.specs.Judged.{holds, ruleRefusal}
 use Rattle.analysis.specs.declared.Timed.{Timed}
 use Rattle.analysis.specs.Answers.{ownTasks, saysLate, timedAnswer}
 use Rattle.analysis.proofs.Verdicts.{some-found, none-below}
@@ -25,11 +30,13 @@ use Rattle.analysis.proofs.Refused.{timed-given}
 use Rattle.analysis.proofs.Lowest.{response-lowest}
 use Rattle.analysis.specs.Bounds.{ownMissed, hopeless}
 use Rattle.analysis.proofs.Borne.{hopeless-fails}
-use Rattle.choices.specs.Choices.{choicesOf, passingOf}
+use Rattle.analysis.proofs.Lowered.{raised-unassured, hopeless-unassured}
+use Rattle.analysis.proofs.Judging.{rule-good, rule-whole}
+use Rattle.choices.specs.Choices.{choicesOf, chosen}
 use Rattle.choices.specs.Lowest.{Lowest, lowestLate}
 use Rattle.choices.proofs.Sifted.{sift-none}
 use Rattle.choices.proofs.Members.{choices-sound}
-use Rattle.choices.proofs.Advancing.{passesWith}
+use Rattle.choices.proofs.Advancing.{testWith}
 
 -- whether the record at a place has priority 1
 abbrev pub hasOne : List Record → ℕ → Bool
@@ -83,25 +90,38 @@ module _ (t : Table) (good : tableRefusal t ≡ 0) where
       go true is = ap saysLate (timed-given t place good (at .0) .1 .is-late is)
       go false is = ap saysLate (timed-given t place good (at .0) .1 .is-on-time is)
 
-  -- where it says late, no choice passes, since the lowest task is late under each
-  pub tested-none : lowestLate t ≡ true → passingOf t ≡ []
-  unfolding passingOf passes
-  tested-none is = sift-none (passesWith t) (choicesOf (levelsOf t)) (λ choice member. fails choice (choices-sound (levelsOf t) member))
-    where
-      fails : (choice : List ℕ) → allAllowed (levelsOf t) choice ≡ true → passesWith t choice ≡ false
-      fails choice sound =
-          let allowed = allowed-exactly t good choice (allowed-length (levelsOf t) choice sound ∙ length-levels t) .0 sound in
-          let at = lowest-there in
-          let late-too = lowest-late-same t (at .0) (at .1) choice (ownChoice t) allowed (own-allowed t good) ∙ sym (lowest-tested (at .0) (at .1)) ∙ is in
-          ap not (some-found (late (tasksOf t (t .interval) choice)) (at .0) (t .count) (at .1 .0) late-too)
+-- where it says late, no choice holds by a rule, since the lowest task is late under each; nor where some record misses its own backup
+module _ (t : Table) where
+  late-fails : (rule : Rule) → ruleRefusal rule t ≡ 0 → lowestLate t ≡ true → (choice : List ℕ) → Allowed t choice → testWith (holds rule) t choice ≡ false
+  unfolding holds passes assured
+  late-fails Published fine is choice allowed =
+      let good = rule-good Published t fine in
+      let at = lowest-there t good in
+      let late-too = lowest-late-same t (at .0) (at .1) choice (ownChoice t) allowed (own-allowed t good) ∙ sym (lowest-tested t good (at .0) (at .1)) ∙ is in
+      ap not (some-found (late (tasksOf t (t .interval) choice)) (at .0) (t .count) (at .1 .0) late-too)
+  late-fails Low fine is choice allowed =
+      let good = rule-good Low t fine in
+      let at = lowest-there t good in
+      let late-too = lowest-late-same t (at .0) (at .1) choice (ownChoice t) allowed (own-allowed t good) ∙ sym (lowest-tested t good (at .0) (at .1)) ∙ is in
+      let raised : getD choice (at .0) 0 ≡ recordAt (t .records) (at .0) .priority = omega (arith, allowed .each (at .0) (at .1 .0), at .1 .1) in
+      ap not (some-found (unassured (tasksOf t (t .interval) choice)) (at .0) (t .count) (at .1 .0) (raised-unassured t good (rule-whole t fine) choice (allowed .each) (at .0) (at .1 .0) raised ∙ late-too))
 
-  -- nor where some record misses its own backup
-  pub hopeless-none : hopeless t ≡ true → passingOf t ≡ []
-  unfolding passingOf hopeless
-  hopeless-none is = sift-none (passesWith t) (choicesOf (levelsOf t)) (λ choice member. fails choice (choices-sound (levelsOf t) member))
-    where
-      some : someBelow (ownMissed (tasksOf t (t .interval) [])) (t .count) ≡ true
-      some = both-true (eqb (tableRefusal t) 0) _ is .1
+  missed-fails : (rule : Rule) → ruleRefusal rule t ≡ 0 → someBelow (ownMissed (tasksOf t (t .interval) [])) (t .count) ≡ true → (choice : List ℕ) → Allowed t choice → testWith (holds rule) t choice ≡ false
+  unfolding holds
+  missed-fails Published fine some choice allowed = hopeless-fails t (rule-good Published t fine) choice (allowed .each) some
+  missed-fails Low fine some choice allowed = hopeless-unassured t (rule-good Low t fine) (rule-whole t fine) choice (allowed .each) some
 
-      fails : (choice : List ℕ) → allAllowed (levelsOf t) choice ≡ true → passesWith t choice ≡ false
-      fails choice sound = hopeless-fails t good choice (allowed-exactly t good choice (allowed-length (levelsOf t) choice sound ∙ length-levels t) .0 sound .each) some
+  module _ (rule : Rule) (fine : ruleRefusal rule t ≡ 0) where
+    none-holds : ((choice : List ℕ) → Allowed t choice → testWith (holds rule) t choice ≡ false) → chosen (holds rule) t ≡ []
+    unfolding chosen
+    none-holds fails =
+        sift-none (testWith (holds rule) t) (choicesOf (levelsOf t)) (λ choice member.
+        let sound = choices-sound (levelsOf t) member in
+        fails choice (allowed-exactly t (rule-good rule t fine) choice (allowed-length (levelsOf t) choice sound ∙ length-levels t) .0 sound))
+
+    pub tested-none : lowestLate t ≡ true → chosen (holds rule) t ≡ []
+    tested-none is = none-holds (late-fails rule fine is)
+
+    pub hopeless-none : hopeless t ≡ true → chosen (holds rule) t ≡ []
+    unfolding hopeless
+    hopeless-none is = none-holds (missed-fails rule fine (both-true (eqb (tableRefusal t) 0) _ is .1))

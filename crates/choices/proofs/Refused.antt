@@ -13,14 +13,15 @@ use Rattle.sheet.specs.Rules.{tableRefusal}
 use Rattle.sheet.proofs.Tells.{ltb-tells}
 use Rattle.sheet.proofs.Order.{table-in-order}
 use Rattle.sheet.proofs.Refused.{given-if}
+use Rattle.analysis.specs.Response.{passes}
 use Rattle.analysis.proofs.Choice.{alike-at}
 use Rattle.choices.specs.declared.Walk.{Walk}
 use Rattle.choices.specs.declared.Arrival.the-variants.{Refused}
 use Rattle.choices.specs.Choices.{passingOf}
-use Rattle.choices.specs.Answers.{startWalk, walkRefusal, stepAnswer, entryBytes, bytesOf, listRefusal, listAnswer, listLeaves}
+use Rattle.choices.specs.Answers.{startWalk, walkRefusal, stepFrom, stepAnswer, entryBytes, bytesOf, roomRefusal, listFrom, leavesFrom, listRefusal, listAnswer, listLeaves}
 use Rattle.choices.specs.Stepping.{small}
 use Rattle.choices.proofs.Entries.{entry-spelled, length-entry, length-bytes}
-use Rattle.choices.proofs.Listed.{passing-eight, list-fits}
+use Rattle.choices.proofs.Listed.{passing-eight, room-fits}
 use Rattle.choices.proofs.Ordered.{in-at}
 use Rattle.choices.proofs.Demands.{Zero, list-bytes}
 
@@ -31,27 +32,27 @@ start-zero = (refl, alike-at 0 8)
 -- `step`: refused, it gives the number beside a walk with all entries zero
 pub step-refused : (t : Table) (w : Walk) → (walkRefusal t (w .entries) ≡ 0 → ⊥)
     → (stepAnswer t w .arrival ≡ Refused (walkRefusal t (w .entries))) × (length (stepAnswer t w .walk .entries) ≡ 8) × Zero (stepAnswer t w .walk .entries)
-unfolding stepAnswer
+unfolding stepAnswer stepFrom
 step-refused t w broken = simp (ne-eqb (walkRefusal t (w .entries)) 0 broken) (refl, refl, alike-at 0 8)
 
 -- `list`
 module _ (t : Table) (out : List ℕ) where
   -- 11 exactly if the table is good and "the lent output is shorter than what is to be written", 4 bytes for each entry
   pub list-11 : (listRefusal t out ≡ 11) ↔ ((tableRefusal t ≡ 0) × (length out < 4 * length (passingOf t)))
-  unfolding listRefusal
+  unfolding listRefusal roomRefusal
   list-11 = given-if (tableRefusal t) 11 (table-in-order t .range) (omega arith) (ltb-tells (length out) (4 * length (passingOf t)))
 
   -- refused, there are no entries and the output stays as it was
   pub list-refused-leaves : (listRefusal t out ≡ 0 → ⊥) → (listAnswer t out .refusal ≡ listRefusal t out) × (listAnswer t out .entries ≡ 0) × (listLeaves t out ≡ out)
-  unfolding listAnswer listLeaves
+  unfolding listAnswer listFrom listLeaves leavesFrom
   list-refused-leaves broken = simp (ne-eqb (listRefusal t out) 0 broken) (refl, refl, refl)
 
   -- else 0 beside their number, and "bytes after those are not touched"
   pub list-given : tableRefusal t ≡ 0 → 4 * length (passingOf t) ≤ length out
       → (listAnswer t out .refusal ≡ 0) × (listAnswer t out .entries ≡ length (passingOf t)) × (drop (4 * length (passingOf t)) (listLeaves t out) ≡ drop (4 * length (passingOf t)) out)
-  unfolding listAnswer listLeaves
+  unfolding listAnswer listFrom listLeaves leavesFrom listRefusal
   list-given good room =
-      let fine = list-fits t out good room in
+      let fine = room-fits (tableRefusal t) (passingOf t) out good room in
       simp (eq-eqb (listRefusal t out) 0 fine) (fine, refl, drop-at (bytesOf (passingOf t)) _ _ (length-bytes (passingOf t)))
 
 -- a byte's halves
@@ -86,6 +87,7 @@ entry-fields choice eight narrow = record { four = length-entry choice; each = �
 -- the four bytes at each place of the list hold the choice at that place
 pub list-fields : (t : Table) (out : List ℕ) → tableRefusal t ≡ 0 → 4 * length (passingOf t) ≤ length out → (k : ℕ) → k < length (passingOf t)
     → Fields (getD (passingOf t) k []) (take 4 (drop (4 * k) (listLeaves t out)))
+unfolding passingOf listRefusal
 list-fields t out good room k below =
-    let known = passing-eight t good (in-at (passingOf t) k below) in
-    subst (Fields (getD (passingOf t) k [])) (sym (list-bytes t out (list-fits t out good room) k below)) (entry-fields (getD (passingOf t) k []) (known .0) (known .1))
+    let known = passing-eight passes t good (in-at (passingOf t) k below) in
+    subst (Fields (getD (passingOf t) k [])) (sym (list-bytes t out (room-fits (tableRefusal t) (passingOf t) out good room) k below)) (entry-fields (getD (passingOf t) k []) (known .0) (known .1))

@@ -19,7 +19,7 @@ use Rattle.analysis.specs.Search.{firstFrom, leastWithin}
 use Rattle.analysis.specs.Response.{timeElsewhere, timeItself, responseWithin, responseTime, isLate, passes}
 use Rattle.analysis.specs.Answers.{outcomeOf, slackOf, entryFrom, entryOf, ownTasks}
 use Rattle.analysis.specs.Allowed.{levelsOf}
-use Rattle.choices.specs.Choices.{inRow, entriesFor, spread, choicesOf, sift, passingOf}
+use Rattle.choices.specs.Choices.{inRow, entriesFor, spread, choicesOf, sift, chosen, passingOf}
 use Rattle.choices.specs.Order.{before, afterOf}
 
 -- Sheet A with an interval, and with the last byte of each record, which holds priority and fault priority
@@ -123,5 +123,5 @@ unfolding rows times choice sheetA lone task together sheet
     up sumBelow mostBelow faultAt ownChoice others everyone backupOf largestBackup backupElsewhere backupFromFault
     isBetween supplierOf struckElsewhere struckItself firstFrom leastWithin timeElsewhere timeItself responseWithin responseTime isLate passes
     outcomeOf slackOf entryFrom entryOf entriesBelow onTime lateBy lateBeyond
-    levelsOf inRow entriesFor spread choicesOf sift passingOf before afterOf
+    levelsOf inRow entriesFor spread choicesOf sift chosen passingOf before afterOf
 rows-hold = one refl (one refl (one refl (one refl (one refl (one refl (one refl (one refl (one refl (one refl (one refl (one refl (one refl (one refl (one refl (one refl (one refl (one refl (one refl (one refl (one refl (one refl (one refl (one refl none)))))))))))))))))))))))

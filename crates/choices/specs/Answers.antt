@@ -8,12 +8,14 @@ use Rattle.sheet.specs.declared.Table.{Table}
 use Rattle.sheet.specs.Places.{orElse}
 use Rattle.sheet.specs.Packing.{regrouped}
 use Rattle.sheet.specs.Rules.{tableRefusal}
+use Rattle.analysis.specs.declared.Rule.{Rule}
 use Rattle.analysis.specs.Allowed.{levelsOf, allAllowed}
+use Rattle.analysis.specs.Judged.{holds, ruleRefusal}
 use Rattle.choices.specs.declared.Walk.{Walk}
 use Rattle.choices.specs.declared.Arrival.the-variants.{Passing, End, Refused}
 use Rattle.choices.specs.declared.Stepped.{Stepped}
 use Rattle.choices.specs.declared.Listing.{Listing}
-use Rattle.choices.specs.Choices.{passingOf}
+use Rattle.choices.specs.Choices.{chosen, passingOf}
 use Rattle.choices.specs.Order.{allZero, afterOf}
 
 -- `Walk::start`: "before the first choice, shown by eight zero entries"
@@ -29,11 +31,13 @@ unfoldable pub arriveAt : Walk → List (List ℕ) → Stepped
 arriveAt w [] = record { walk = w; arrival = End }
 arriveAt w (choice ∷ later) = record { walk = record { entries = choice }; arrival = Passing }
 
--- `step`: the first passing choice after the walk; "a refused step gives it back with all entries zero"
+-- a step through a list: to the first choice after the walk; "a refused step gives it back with all entries zero"
+unfoldable pub stepFrom : ℕ → List (List ℕ) → Walk → Stepped
+stepFrom refusal list w = cond (eqb refusal 0) (arriveAt w (afterOf (w .entries) list)) (record { walk = startWalk; arrival = Refused refusal })
+
+-- `step`: through the passing choices
 unfoldable pub stepAnswer : Table → Walk → Stepped
-stepAnswer t w =
-    cond (eqb (walkRefusal t (w .entries)) 0) (arriveAt w (afterOf (w .entries) (passingOf t)))
-    (record { walk = startWalk; arrival = Refused (walkRefusal t (w .entries)) })
+stepAnswer t w = stepFrom (walkRefusal t (w .entries)) (passingOf t) w
 
 -- "A list entry is 4 bytes: 4 bits for each record in record order, the rest zero."
 unfoldable pub entryBytes : List ℕ → List ℕ
@@ -44,14 +48,42 @@ unfoldable pub bytesOf : List (List ℕ) → List ℕ
 bytesOf [] = []
 bytesOf (choice ∷ later) = entryBytes choice ++ bytesOf later
 
--- the refusal of `list`: the table's, then 11, "the lent output is shorter than what is to be written"
+-- the refusal of putting a list into an output: one that comes first, then 11, "the lent output is shorter than what is to be written"
+unfoldable pub roomRefusal : ℕ → List (List ℕ) → List ℕ → ℕ
+roomRefusal refusal list out = orElse refusal (cond (ltb (length out) (4 * length list)) 11 0)
+
+-- the refusal beside the number of entries
+unfoldable pub listFrom : ℕ → List (List ℕ) → Listing
+listFrom refusal list = record { refusal = refusal; entries = cond (eqb refusal 0) (length list) 0 }
+
+-- the output after it: every choice of the list, and then the bytes as they were, or all of it as it was
+unfoldable pub leavesFrom : ℕ → List (List ℕ) → List ℕ → List ℕ
+leavesFrom refusal list out = cond (eqb refusal 0) (bytesOf list ++ drop (4 * length list) out) out
+
+-- the refusal of `list`: the table's, then 11
 unfoldable pub listRefusal : Table → List ℕ → ℕ
-listRefusal t out = orElse (tableRefusal t) (cond (ltb (length out) (4 * length (passingOf t))) 11 0)
+listRefusal t out = roomRefusal (tableRefusal t) (passingOf t) out
 
--- `list`: the refusal beside the number of entries
+-- `list`: every passing choice
 unfoldable pub listAnswer : Table → List ℕ → Listing
-listAnswer t out = record { refusal = listRefusal t out; entries = cond (eqb (listRefusal t out) 0) (length (passingOf t)) 0 }
+listAnswer t out = listFrom (listRefusal t out) (passingOf t)
 
--- the output after `list`: every passing choice, and then the bytes as they were, or all of it as it was
+-- the output after `list`
 unfoldable pub listLeaves : Table → List ℕ → List ℕ
-listLeaves t out = cond (eqb (listRefusal t out) 0) (bytesOf (passingOf t) ++ drop (4 * length (passingOf t)) out) out
+listLeaves t out = leavesFrom (listRefusal t out) (passingOf t) out
+
+-- `step_by` and `list_by`: the same by a rule, with what a table is refused for under it
+unfoldable pub startRefusal : Rule → Table → List ℕ → ℕ
+startRefusal rule t start = orElse (ruleRefusal rule t) (cond (allZero start || allAllowed (levelsOf t) start) 0 13)
+
+unfoldable pub stepBy : Rule → Table → Walk → Stepped
+stepBy rule t w = stepFrom (startRefusal rule t (w .entries)) (chosen (holds rule) t) w
+
+unfoldable pub refusalBy : Rule → Table → List ℕ → ℕ
+refusalBy rule t out = roomRefusal (ruleRefusal rule t) (chosen (holds rule) t) out
+
+unfoldable pub listBy : Rule → Table → List ℕ → Listing
+listBy rule t out = listFrom (refusalBy rule t out) (chosen (holds rule) t)
+
+unfoldable pub leavesBy : Rule → Table → List ℕ → List ℕ
+leavesBy rule t out = leavesFrom (refusalBy rule t out) (chosen (holds rule) t) out

@@ -1,9 +1,9 @@
--- The choices of a table in their order, and those that pass. The sheet's own fault priorities play no part.
+-- The choices of a table in their order, those under which a test holds, and those that pass. The sheet's own fault priorities play no part.
 use Prim.Native.Nat.{ℕ, zero, suc}
 use mathlib.Core.Bool.{Bool, cond}
 use mathlib.Core.List.{List, [], _∷_, _++_, map}
 use Rattle.sheet.specs.declared.Table.{Table}
-use Rattle.analysis.specs.Tasks.{tasksOf}
+use Rattle.analysis.specs.Tasks.{Tasks, tasksOf}
 use Rattle.analysis.specs.Response.{passes}
 use Rattle.analysis.specs.Allowed.{levelsOf}
 
@@ -32,6 +32,10 @@ unfoldable pub sift : {A : Type 0} → (A → Bool) → List A → List A
 sift test [] = []
 sift test (a ∷ l) = cond (test a) (a ∷ sift test l) (sift test l)
 
+-- the choices under which a table's tasks pass a test
+unfoldable pub chosen : (Tasks → Bool) → Table → List (List ℕ)
+chosen test t = sift (λ choice. test (tasksOf t (t .interval) choice)) (choicesOf (levelsOf t))
+
 -- the choices under which the table passes
 unfoldable pub passingOf : Table → List (List ℕ)
-passingOf t = sift (λ choice. passes (tasksOf t (t .interval) choice)) (choicesOf (levelsOf t))
+passingOf t = chosen passes t

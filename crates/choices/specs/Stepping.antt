@@ -7,13 +7,14 @@ use lib.Dec.{eqb, ltb}
 use lib.ListN.{getD}
 use Rattle.sheet.specs.declared.Table.{Table}
 use Rattle.analysis.specs.declared.Bounds.{Bounds}
+use Rattle.analysis.specs.declared.Rule.{Rule}
 use Rattle.analysis.specs.Bounds.{boundsOf}
 use Rattle.choices.specs.declared.Found.{Found}
 use Rattle.choices.specs.Order.{allZero}
 
--- bounds that are a table's, or none, whose count is 0
-abbrev pub Knows : Table → Bounds → Type 0
-Knows t bounds = (bounds .count ≡ 0 → ⊥) → bounds ≡ boundsOf t
+-- bounds that are a table's under a rule, or none, whose count is 0
+abbrev pub Knows : Rule → Table → Bounds → Type 0
+Knows rule t bounds = (bounds .count ≡ 0 → ⊥) → bounds ≡ boundsOf rule t
 
 -- n!, which is how many choices n records have
 unfoldable pub factorial : ℕ → ℕ

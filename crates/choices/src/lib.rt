@@ -1,6 +1,7 @@
-// Every choice of fault priorities under which a table passes: the walk from choice to choice, and the whole list.
+// Every choice of fault priorities that holds by a rule, as the passing ones do: the walk from choice to choice, and the whole list.
 ghost use mathlib.Core.Path.{_≡_};
-ghost use Rattle.choices.specs.Answers.{startWalk, stepAnswer, listAnswer, listLeaves};
+ghost use Rattle.choices.specs.Answers.{startWalk, stepBy, stepAnswer, listBy, leavesBy, listAnswer, listLeaves};
+use analysis::Rule;
 use sheet::Table;
 
 mod lister;
@@ -45,12 +46,12 @@ impl Walk {
         Walk { entries: [0u8; 8] }
     }
 
-    // The next passing choice after the one that the walk stands at.
-    pub fn step(self, table: Table) -> Stepped
-        ensures { λ r. ⌜ r ≡ stepAnswer table self ⌝ }
+    // The next choice that holds by a rule after the one that the walk stands at.
+    pub fn step_by(self, table: Table, rule: Rule) -> Stepped
+        ensures { λ r. ⌜ r ≡ stepBy rule table self ⌝ }
     {
         let entries = self.entries;
-        let refusal = odometer::judge_start(table, entries);
+        let refusal = odometer::judge_start(table, entries, rule);
         if refusal != 0 {
             return Stepped {
                 walk: Walk::start(),
@@ -63,7 +64,7 @@ impl Walk {
                 arrival: Arrival::End,
             };
         }
-        let found = odometer::advance(table, odometer::no_bounds(), entries);
+        let found = odometer::advance(table, odometer::no_bounds(), entries, rule);
         if found.is_there {
             let choice = found.choice;
             return Stepped {
@@ -76,28 +77,35 @@ impl Walk {
             arrival: Arrival::End,
         }
     }
+
+    // The next passing choice after the one that the walk stands at.
+    pub fn step(self, table: Table) -> Stepped
+        ensures { λ r. ⌜ r ≡ stepAnswer table self ⌝ }
+    {
+        self.step_by(table, Rule::Published)
+    }
 }
 
-// Every passing choice, 4 bytes each, at the start of the output.
-pub fn list(table: Table, out: &mut [u8]) -> Listing
-    ensures { λ r. ⌜ (r ≡ listAnswer table (now (out .entry))) × (now (out .exit) ≡ listLeaves table (now (out .entry))) ⌝ }
+// Every choice that holds by a rule, 4 bytes each, at the start of the output.
+pub fn list_by(table: Table, out: &mut [u8], rule: Rule) -> Listing
+    ensures { λ r. ⌜ (r ≡ listBy rule table (now (out .entry))) × (now (out .exit) ≡ leavesBy rule table (now (out .entry))) ⌝ }
 {
-    let refusal = sheet::judge_table(table);
+    let refusal = analysis::judge_rule(table, rule);
     if refusal != 0 {
         return Listing {
             refusal,
             entries: 0,
         };
     }
-    if lowest::none_passes(table) {
+    if lowest::none_holds(table, rule) {
         return Listing {
             refusal: 0,
             entries: 0,
         };
     }
-    let bounds = analysis::bounds_of(table);
-    if lister::fits(table, bounds, out.len() / 4) {
-        let entries = lister::fill(table, bounds, out);
+    let bounds = analysis::bounds_of(table, rule);
+    if lister::fits(table, bounds, out.len() / 4, rule) {
+        let entries = lister::fill(table, bounds, out, rule);
         return Listing {
             refusal: 0,
             entries,
@@ -107,4 +115,11 @@ pub fn list(table: Table, out: &mut [u8]) -> Listing
         refusal: 11,
         entries: 0,
     }
+}
+
+// Every passing choice, 4 bytes each, at the start of the output.
+pub fn list(table: Table, out: &mut [u8]) -> Listing
+    ensures { λ r. ⌜ (r ≡ listAnswer table (now (out .entry))) × (now (out .exit) ≡ listLeaves table (now (out .entry))) ⌝ }
+{
+    list_by(table, out, Rule::Published)
 }

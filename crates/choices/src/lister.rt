@@ -5,12 +5,13 @@ ghost use Prim.Native.Nat.{_+_, _*_, _≤_};
 ghost use lib.Dec.{leb};
 ghost use lib.ListN.{length, drop};
 ghost use lib.Seq.{sets};
-ghost use Rattle.sheet.specs.Rules.{tableRefusal};
-ghost use Rattle.choices.specs.Choices.{passingOf};
+ghost use Rattle.analysis.specs.Judged.{holds, ruleRefusal};
+ghost use Rattle.choices.specs.Choices.{chosen};
 ghost use Rattle.choices.specs.Answers.{entryBytes, bytesOf};
 ghost use Rattle.choices.specs.Stepping.{Knows, factorial, small};
 use crate::odometer;
 use analysis::Bounds;
+use analysis::Rule;
 use sheet::Table;
 
 // How many choices so many records have: no list is longer.
@@ -28,10 +29,10 @@ fn most(count: u8) -> usize
     choices
 }
 
-// Whether there are no more passing choices than the room has entries.
-pub fn fits(table: Table, bounds: Bounds, room: usize) -> bool
-    requires { ⌜ (tableRefusal table ≡ 0) × (Knows table bounds) ⌝ }
-    ensures { λ r. ⌜ r ≡ leb (length (passingOf table)) room ⌝ }
+// Whether there are no more choices that hold by a rule than the room has entries.
+pub fn fits(table: Table, bounds: Bounds, room: usize, rule: Rule) -> bool
+    requires { ⌜ (ruleRefusal rule table ≡ 0) × (Knows rule table bounds) ⌝ }
+    ensures { λ r. ⌜ r ≡ leb (length (chosen (holds rule) table)) room ⌝ }
 {
     if most(table.count) <= room {
         return true;
@@ -39,7 +40,7 @@ pub fn fits(table: Table, bounds: Bounds, room: usize) -> bool
     let mut walk = [0u8; 8];
     let mut left = room;
     loop {
-        let found = odometer::advance(table, bounds, walk);
+        let found = odometer::advance(table, bounds, walk, rule);
         if found.is_there {
             if left == 0 {
                 return false;
@@ -64,15 +65,15 @@ fn put_entry(out: &mut [u8], at: usize, choice: [u8; 8])
     out[at + 3] = choice[6] * 16 + choice[7];
 }
 
-// Puts every passing choice, and counts them.
-pub fn fill(table: Table, bounds: Bounds, out: &mut [u8]) -> usize
-    requires { ⌜ (tableRefusal table ≡ 0) × (Knows table bounds) × (4 * length (passingOf table) ≤ length (now out)) ⌝ }
-    ensures { λ r. ⌜ (r ≡ length (passingOf table)) × (now (out .exit) ≡ bytesOf (passingOf table) ++ drop (4 * length (passingOf table)) (now (out .entry))) ⌝ }
+// Puts every choice that holds by a rule, and counts them.
+pub fn fill(table: Table, bounds: Bounds, out: &mut [u8], rule: Rule) -> usize
+    requires { ⌜ (ruleRefusal rule table ≡ 0) × (Knows rule table bounds) × (4 * length (chosen (holds rule) table) ≤ length (now out)) ⌝ }
+    ensures { λ r. ⌜ (r ≡ length (chosen (holds rule) table)) × (now (out .exit) ≡ bytesOf (chosen (holds rule) table) ++ drop (4 * length (chosen (holds rule) table)) (now (out .entry))) ⌝ }
 {
     let mut walk = [0u8; 8];
     let mut entries: usize = 0;
     loop {
-        let found = odometer::advance(table, bounds, walk);
+        let found = odometer::advance(table, bounds, walk, rule);
         if found.is_there {
             let choice = found.choice;
             put_entry(out, 4 * entries, choice);

@@ -1,18 +1,18 @@
-// From one choice to the next: whether a walk may go on after a start, the choice right after another, and the next one that passes.
+// From one choice to the next: whether a walk may go on after a start, the choice right after another, and the next one that holds by a rule.
 ghost use mathlib.Core.Path.{_≡_};
-ghost use mathlib.Core.Bool.{true};
+ghost use mathlib.Core.Bool.{true, _||_};
 ghost use Prim.Native.Nat.{_≤_};
 ghost use mathlib.Core.List.{[], map};
-ghost use Rattle.sheet.specs.Rules.{tableRefusal};
 ghost use Rattle.analysis.specs.Tasks.{tasksOf};
-ghost use Rattle.analysis.specs.Response.{passes};
 ghost use Rattle.analysis.specs.Allowed.{levelsOf, allAllowed};
-ghost use Rattle.choices.specs.Choices.{passingOf};
+ghost use Rattle.analysis.specs.Judged.{holds, ruleRefusal};
+ghost use Rattle.choices.specs.Choices.{chosen};
 ghost use Rattle.choices.specs.Order.{allZero, afterOf};
-ghost use Rattle.choices.specs.Answers.{walkRefusal};
+ghost use Rattle.choices.specs.Answers.{startRefusal};
 ghost use Rattle.choices.specs.Stepping.{Knows, firstFor, foundIn, nextOf};
 use crate::Found;
 use analysis::Bounds;
+use analysis::Rule;
 use sheet::Table;
 
 // How many choices are looked at by climbing before bounds are found.
@@ -48,14 +48,14 @@ fn all_zero(choice: [u8; 8]) -> bool
     true
 }
 
-// The refusal of going on after a start, which is all zero or a choice: the table's, then 13.
-pub fn judge_start(table: Table, start: [u8; 8]) -> u8
-    ensures { λ r. ⌜ r ≡ walkRefusal table start ⌝ }
+// The refusal under a rule of going on after a start, which is all zero or a choice: the table's, then 13.
+pub fn judge_start(table: Table, start: [u8; 8], rule: Rule) -> u8
+    ensures { λ r. ⌜ r ≡ startRefusal rule table start ⌝ }
 {
     if all_zero(start) {
-        return sheet::judge_table(table);
+        return analysis::judge_rule(table, rule);
     }
-    analysis::judge_choice(table, start)
+    analysis::judge_choice_by(table, start, rule)
 }
 
 // The first entry allowed at a place of the level.
@@ -120,15 +120,15 @@ pub fn no_bounds() -> Bounds
     }
 }
 
-// Whether a choice passes: by the bounds where they are known, else by climbing.
-fn passes(table: Table, bounds: Bounds, choice: [u8; 8]) -> bool
-    requires { ⌜ (tableRefusal table ≡ 0) × (Knows table bounds) × (allAllowed (levelsOf table) choice ≡ true) ⌝ }
-    ensures { λ r. ⌜ r ≡ passes (tasksOf table (table .interval) choice) ⌝ }
+// Whether a choice holds by a rule: by the bounds where they are known, else by climbing.
+fn holds(table: Table, bounds: Bounds, choice: [u8; 8], rule: Rule) -> bool
+    requires { ⌜ (ruleRefusal rule table ≡ 0) × (Knows rule table bounds) × (allAllowed (levelsOf table) choice ≡ true) ⌝ }
+    ensures { λ r. ⌜ r ≡ holds rule (tasksOf table (table .interval) choice) ⌝ }
 {
     if bounds.count != 0 {
-        return analysis::passes_within(bounds, choice);
+        return analysis::holds_within(bounds, choice, rule);
     }
-    analysis::assess_choice(table, choice, false).passes
+    analysis::holds(table, choice, rule)
 }
 
 // One less, down to 0.
@@ -136,10 +136,10 @@ fn one_less(left: u8) -> u8 {
     if left == 0 { 0 } else { left - 1 }
 }
 
-// Whether no choice passes because of some record's own backup, asked where no bounds are known and no choice is left that is to be looked at without.
-fn ends(table: Table, bounds: Bounds, left: u8) -> bool
-    requires { ⌜ tableRefusal table ≡ 0 ⌝ }
-    ensures { λ r. ⌜ (r ≡ true → passingOf table ≡ []) ⌝ }
+// Whether no choice holds because of some record's own backup, asked where no bounds are known and no choice is left that is to be looked at without.
+fn ends(table: Table, bounds: Bounds, left: u8, rule: Rule) -> bool
+    requires { ⌜ ruleRefusal rule table ≡ 0 ⌝ }
+    ensures { λ r. ⌜ (r ≡ true → chosen (holds rule) table ≡ []) ⌝ }
 {
     if left == 0 {
         if bounds.count == 0 {
@@ -150,22 +150,22 @@ fn ends(table: Table, bounds: Bounds, left: u8) -> bool
 }
 
 // The bounds as they are known, or found where none are and no choice is left that is to be looked at without.
-fn sought(table: Table, bounds: Bounds, left: u8) -> Bounds
-    requires { ⌜ Knows table bounds ⌝ }
-    ensures { λ r. ⌜ Knows table r ⌝ }
+fn sought(table: Table, bounds: Bounds, left: u8, rule: Rule) -> Bounds
+    requires { ⌜ Knows rule table bounds ⌝ }
+    ensures { λ r. ⌜ Knows rule table r ⌝ }
 {
     if left == 0 {
         if bounds.count == 0 {
-            return analysis::bounds_of(table);
+            return analysis::bounds_of(table, rule);
         }
     }
     bounds
 }
 
-// The first passing choice after a start. Where no bounds are known a few choices are looked at by climbing first, so that one found at once does not pay for bounds.
-pub fn advance(table: Table, bounds: Bounds, start: [u8; 8]) -> Found
-    requires { ⌜ (walkRefusal table start ≡ 0) × (Knows table bounds) ⌝ }
-    ensures { λ r. ⌜ r ≡ foundIn start (afterOf start (passingOf table)) ⌝ }
+// The first choice after a start that holds by a rule. Where no bounds are known a few choices are looked at by climbing first, so that one found at once does not pay for bounds.
+pub fn advance(table: Table, bounds: Bounds, start: [u8; 8], rule: Rule) -> Found
+    requires { ⌜ (ruleRefusal rule table ≡ 0) × ((allZero start || allAllowed (levelsOf table) start) ≡ true) × (Knows rule table bounds) ⌝ }
+    ensures { λ r. ⌜ r ≡ foundIn start (afterOf start (chosen (holds rule) table)) ⌝ }
 {
     let levels = levels_of(table);
     let mut known = bounds;
@@ -176,20 +176,20 @@ pub fn advance(table: Table, bounds: Bounds, start: [u8; 8]) -> Found
         if found.is_there {
             let later = found.choice;
             choice = later;
-            if passes(table, known, choice) {
+            if holds(table, known, choice, rule) {
                 return Found {
                     is_there: true,
                     choice,
                 };
             }
             left = one_less(left);
-            if ends(table, known, left) {
+            if ends(table, known, left, rule) {
                 return Found {
                     is_there: false,
                     choice: start,
                 };
             }
-            let better = sought(table, known, left);
+            let better = sought(table, known, left, rule);
             known = better;
         } else {
             return Found {

@@ -5,7 +5,7 @@ use mathlib.Core.List.{List}
 use lib.IntN.{ℤ}
 use Rattle.sheet.specs.Rules.{sheetRefusal}
 use Rattle.sheet.proofs.Unique.{both}
-use Rattle.fidhaqooban.specs.Answers.{writeSharedNumber, writeSharedLeft, writeNumber, writeLeft, rewriteNumber, rewriteLeft, recordNumber, responseNumber, slackNumber, slackLeft, verdictNumber, intervalNumber, nextNumber, listNumber, listLeft, replayNumber, replayLeft, checkNumber, mendNumber, mendLeft, mendListed, coresNumber, coresLeft, releaseNumber}
+use Rattle.fidhaqooban.specs.Answers.{writeSharedNumber, writeSharedLeft, writeNumber, writeLeft, rewriteNumber, rewriteLeft, recordNumber, responseNumber, slackNumber, slackLeft, verdictNumber, intervalNumber, nextNumber, listNumber, listLeft, assuredNumber, assuredNextNumber, assuredListNumber, assuredListLeft, replayNumber, replayLeft, checkNumber, mendNumber, mendLeft, mendListed, coresNumber, coresLeft, releaseNumber}
 use Rattle.locks.specs.declared.Request.{Request}
 use Rattle.fidhaqooban.specs.Locking.{grantingOf, lockNumber, lockLeft}
 
@@ -48,6 +48,16 @@ fq-next-unique sheet after a b = both
 pub fq-list-unique : (sheet out : List ℕ) (a b : ℤ) (left left′ : List ℕ)
     → (a ≡ listNumber sheet out) × (left ≡ listLeft sheet out) → (b ≡ listNumber sheet out) × (left′ ≡ listLeft sheet out) → (a ≡ b) × (left ≡ left′)
 fq-list-unique sheet out a b left left′ p q = (both (p .0) (q .0), both (p .1) (q .1))
+
+pub fq-assured-response-unique : (sheet : List ℕ) (place : ℕ) (a b : ℤ) → a ≡ assuredNumber sheet place → b ≡ assuredNumber sheet place → a ≡ b
+fq-assured-response-unique sheet place a b = both
+
+pub fq-assured-next-unique : (sheet : List ℕ) (after : ℕ) (a b : ℤ) → a ≡ assuredNextNumber sheet after → b ≡ assuredNextNumber sheet after → a ≡ b
+fq-assured-next-unique sheet after a b = both
+
+pub fq-assured-list-unique : (sheet out : List ℕ) (a b : ℤ) (left left′ : List ℕ)
+    → (a ≡ assuredListNumber sheet out) × (left ≡ assuredListLeft sheet out) → (b ≡ assuredListNumber sheet out) × (left′ ≡ assuredListLeft sheet out) → (a ≡ b) × (left ≡ left′)
+fq-assured-list-unique sheet out a b left left′ p q = (both (p .0) (q .0), both (p .1) (q .1))
 
 pub fq-replay-unique : (sheet log out : List ℕ) (a b : ℤ) (left left′ : List ℕ)
     → (a ≡ replayNumber sheet log out) × (left ≡ replayLeft sheet log out) → (b ≡ replayNumber sheet log out) × (left′ ≡ replayLeft sheet log out) → (a ≡ b) × (left ≡ left′)

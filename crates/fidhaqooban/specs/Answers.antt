@@ -11,9 +11,12 @@ use Rattle.sheet.specs.Rules.{sheetRefusal}
 use Rattle.sheet.specs.Answers.{writeRefusal, writeLeaves, placeRefusal}
 use Rattle.analysis.specs.Response.{passes}
 use Rattle.analysis.specs.Answers.{entryOf, ownTasks, leastInterval}
+use Rattle.choices.specs.declared.Arrival.{Arrival}
+use Rattle.choices.specs.declared.Arrival.the-variants.{Passing, End, Refused}
 use Rattle.choices.specs.Choices.{passingOf}
 use Rattle.choices.specs.Order.{afterOf}
 use Rattle.choices.specs.Answers.{walkRefusal, listRefusal, listLeaves}
+use Rattle.assured.specs.Answers.{assuredOf, stepRefusal, placeRefusal as askedRefusal, entryOf as assuredEntry, listRefusal as assuredRoom, listLeaves as assuredLeaves}
 use Rattle.replay.specs.Machines.{machineOf}
 use Rattle.replay.specs.Shown.{matching}
 use Rattle.replay.specs.Answers.{replayRefusal, replayAnswer, checkRefusal}
@@ -85,6 +88,12 @@ unfoldable pub firstNumber : List (List ℕ) → ℕ
 firstNumber [] = 0
 firstNumber (choice ∷ later) = choiceOf choice
 
+-- what a step is as a number
+unfoldable pub arrivalAnswered : Arrival → List ℕ → ℤ
+arrivalAnswered (Refused refusal) entries = answerOf refusal 0
+arrivalAnswered Passing entries = answerOf 0 (choiceOf entries)
+arrivalAnswered End entries = answerOf 0 0
+
 -- the refusal of `fq_next`: the sheet's, then the walk's
 unfoldable pub nextRefusal : List ℕ → ℕ → ℕ
 nextRefusal sheet after = orElse (sheetRefusal sheet) (walkRefusal (tableOf sheet) (entriesOf after))
@@ -104,6 +113,30 @@ listNumber sheet out = answerOf (listingRefusal sheet out) (length (passingOf (t
 -- what it leaves in the output: every passing choice and then the bytes as they were, or all as it was
 unfoldable pub listLeft : List ℕ → List ℕ → List ℕ
 listLeft sheet out = cond (eqb (sheetRefusal sheet) 0) (listLeaves (tableOf sheet) out) out
+
+-- `fq_assured_response`: the assured time; 0 late; the sheet's refusal, then 19, then 12 for the place
+unfoldable pub assuredNumber : List ℕ → ℕ → ℤ
+assuredNumber sheet place = answerOf (orElse (sheetRefusal sheet) (askedRefusal (tableOf sheet) place)) (timeOf (assuredEntry (ownTasks (tableOf sheet)) place .outcome))
+
+-- the refusal of `fq_assured_next`: the sheet's, then 19 and 13
+unfoldable pub assuredNextRefusal : List ℕ → ℕ → ℕ
+assuredNextRefusal sheet after = orElse (sheetRefusal sheet) (stepRefusal (tableOf sheet) (entriesOf after))
+
+-- `fq_assured_next`: the next assured choice; 0 the end
+unfoldable pub assuredNextNumber : List ℕ → ℕ → ℤ
+assuredNextNumber sheet after = answerOf (assuredNextRefusal sheet after) (firstNumber (afterOf (entriesOf after) (assuredOf (tableOf sheet))))
+
+-- the refusal of `fq_assured_list`: the sheet's, then 19 and 11
+unfoldable pub assuredListRefusal : List ℕ → List ℕ → ℕ
+assuredListRefusal sheet out = orElse (sheetRefusal sheet) (assuredRoom (tableOf sheet) out)
+
+-- `fq_assured_list`: the number of entries
+unfoldable pub assuredListNumber : List ℕ → List ℕ → ℤ
+assuredListNumber sheet out = answerOf (assuredListRefusal sheet out) (length (assuredOf (tableOf sheet)))
+
+-- what it leaves in the output: every assured choice and then the bytes as they were, or all as it was
+unfoldable pub assuredListLeft : List ℕ → List ℕ → List ℕ
+assuredListLeft sheet out = cond (eqb (sheetRefusal sheet) 0) (assuredLeaves (tableOf sheet) out) out
 
 -- the refusal of `fq_replay`: the replay's, then 11, where the output has no room for seven numbers
 unfoldable pub replayedRefusal : List ℕ → List ℕ → List ℕ → ℕ

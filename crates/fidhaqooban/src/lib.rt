@@ -2,10 +2,9 @@
 // Each function is thin: it reads the sheet, asks the crate that answers, and turns the answer into a number.
 ghost use mathlib.Core.Path.{_≡_};
 ghost use Rattle.sheet.specs.Rules.{sheetRefusal};
-ghost use Rattle.fidhaqooban.specs.Answers.{writeSharedNumber, writeSharedLeft, writeNumber, writeLeft, rewriteNumber, rewriteLeft, recordNumber, responseNumber, slackNumber, slackLeft, verdictNumber, intervalNumber, nextNumber, listNumber, listLeft, replayNumber, replayLeft, checkNumber, mendNumber, mendLeft, mendListed, coresNumber, coresLeft, releaseNumber};
+ghost use Rattle.fidhaqooban.specs.Answers.{writeSharedNumber, writeSharedLeft, writeNumber, writeLeft, rewriteNumber, rewriteLeft, recordNumber, responseNumber, slackNumber, slackLeft, verdictNumber, intervalNumber, nextNumber, listNumber, listLeft, assuredNumber, assuredNextNumber, assuredListNumber, assuredListLeft, replayNumber, replayLeft, checkNumber, mendNumber, mendLeft, mendListed, coresNumber, coresLeft, releaseNumber};
 ghost use Rattle.fidhaqooban.specs.Locking.{givenRequest, grantingOf, lockNumber, lockLeft};
 use analysis::Interval;
-use choices::Arrival;
 use choices::Walk;
 use cores::Fit;
 use locks::Request;
@@ -153,17 +152,7 @@ pub extern "C" fn fq_next(sheet: &[u8], after: u32) -> i64
     let table = reading.table;
     let entries = numbers::entries_of(after);
     let walk = Walk { entries };
-    let stepped = walk.step(table);
-    let arrival = stepped.arrival;
-    match arrival {
-        Arrival::Refused(refusal) => numbers::answer(refusal, 0),
-        Arrival::Passing => {
-            let walk = stepped.walk;
-            let entries = walk.entries;
-            numbers::answer(0, numbers::choice_of(entries) as usize)
-        }
-        Arrival::End => numbers::answer(0, 0),
-    }
+    numbers::step_of(walk.step(table))
 }
 
 // Writes every passing choice: how many.
@@ -178,6 +167,51 @@ pub extern "C" fn fq_list(sheet: &[u8], out: &mut [u8]) -> i64
     let table = reading.table;
     let listing = choices::list(table, out);
     numbers::answer(listing.refusal, listing.entries)
+}
+
+// The assured time of the record at a place, 0 where it has none.
+#[no_mangle]
+pub extern "C" fn fq_assured_response(sheet: &[u8], place: usize) -> i64
+    ensures { λ r. ⌜ r ≡ assuredNumber (now (sheet .entry)) place ⌝ }
+{
+    let reading = sheet::read(sheet);
+    if reading.refusal != 0 {
+        return numbers::answer(reading.refusal, 0);
+    }
+    let table = reading.table;
+    let within = assured::assured_time(table, place);
+    let entry = within.entry;
+    let outcome = entry.outcome;
+    numbers::answer(within.refusal, numbers::time_of(outcome))
+}
+
+// The next assured choice after another, 0 at the end.
+#[no_mangle]
+pub extern "C" fn fq_assured_next(sheet: &[u8], after: u32) -> i64
+    ensures { λ r. ⌜ r ≡ assuredNextNumber (now (sheet .entry)) after ⌝ }
+{
+    let reading = sheet::read(sheet);
+    if reading.refusal != 0 {
+        return numbers::answer(reading.refusal, 0);
+    }
+    let table = reading.table;
+    let start = numbers::entries_of(after);
+    let walk = Walk { entries: start };
+    numbers::step_of(assured::step(table, walk))
+}
+
+// Writes every assured choice: how many.
+#[no_mangle]
+pub extern "C" fn fq_assured_list(sheet: &[u8], out: &mut [u8]) -> i64
+    ensures { λ r. ⌜ (r ≡ assuredListNumber (now (sheet .entry)) (now (out .entry))) × (now (out .exit) ≡ assuredListLeft (now (sheet .entry)) (now (out .entry))) ⌝ }
+{
+    let reading = sheet::read(sheet);
+    if reading.refusal != 0 {
+        return numbers::answer(reading.refusal, 0);
+    }
+    let table = reading.table;
+    let listed = assured::list(table, out);
+    numbers::answer(listed.refusal, listed.entries)
 }
 
 // Replays a log: 0, with its seven counts at the start of the output.

@@ -6,11 +6,15 @@ ghost use lib.Seq.{sets};
 ghost use mathlib.Core.List.{_++_};
 ghost use Rattle.sheet.specs.Layout.{countOf, startOf};
 ghost use Rattle.sheet.specs.Rules.{sheetRefusal};
+ghost use Rattle.choices.specs.declared.Arrival.the-variants.{Passing};
 ghost use Rattle.choices.specs.Stepping.{small};
 ghost use Rattle.mend.specs.Changes.{fieldNumber};
+ghost use Rattle.fidhaqooban.specs.Answers.{arrivalAnswered};
 ghost use Rattle.fidhaqooban.specs.Numbers.{answerOf, numberAt, byteOf, givenRecord, tableFrom, givenTable, timeOf, figuresOf, figureIn, entriesOf, choiceOf, countNumbers, changeNumbers, changesFrom};
 use analysis::Outcome;
 use analysis::Slack;
+use choices::Arrival;
+use choices::Stepped;
 use mend::Change;
 use mend::Field;
 use replay::Counts;
@@ -159,6 +163,23 @@ pub fn choice_of(entries: [u8; 8]) -> u32
         place += 1;
     }
     choice
+}
+
+// What a step comes to as a number: the choice, 0 at the end, or the refusal with a minus sign.
+pub fn step_of(stepped: Stepped) -> i64
+    requires { ⌜ (stepped .arrival ≡ Passing → small (stepped .walk .entries)) ⌝ }
+    ensures { λ r. ⌜ r ≡ arrivalAnswered (stepped .arrival) (stepped .walk .entries) ⌝ }
+{
+    let arrival = stepped.arrival;
+    match arrival {
+        Arrival::Refused(refusal) => answer(refusal, 0),
+        Arrival::Passing => {
+            let walk = stepped.walk;
+            let entries = walk.entries;
+            answer(0, choice_of(entries) as usize)
+        }
+        Arrival::End => answer(0, 0),
+    }
 }
 
 // Puts seven counts at the start of an output that has room.

@@ -7,18 +7,14 @@ use native.Mathlib.Decide.{ℕ-discrete}
 use native.Mathlib.Omega.{arith}
 use lib.Dec.{eqb, ltb}
 use Rattle.sheet.specs.declared.Record.{Record}
-use Rattle.sheet.proofs.Tells.{Tells, holds, fails, tells-iff, or-tells, and-tells, eqb-tells, ltb-tells}
+use Rattle.sheet.proofs.Tells.{Tells, tells-iff, or-tells, and-tells, eqb-tells, ltb-tells}
+use Rattle.analysis.proofs.Raised.{tells-so}
 use Rattle.replay.specs.declared.Cell.{Cell}
 use Rattle.replay.specs.Runner.{levelOf}
 use Rattle.replay.specs.Step.{worked, struck, ended}
 use Rattle.replay.proofs.Countdown.{true-tells}
 use Rattle.replay.proofs.Order.{tells-true}
 use Rattle.replay.proofs.Ordered.{Before, higher-level, backup-first, higher-task}
-
--- what a test tells makes it true
-pub tells-so : {P : Type 0} {b : Bool} → Tells P b → P → b ≡ true
-tells-so (holds p) q = refl
-tells-so (fails n) q = absurd (n q)
 
 module _ (tasks : ℕ → Record) (i : ℕ) where
   -- the job of a cell at a place counts

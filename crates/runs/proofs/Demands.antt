@@ -21,8 +21,10 @@ use Rattle.analysis.specs.Tasks.{Tasks, ownChoice}
 use Rattle.analysis.specs.declared.Outcome.the-variants.{OnTime, Late}
 use Rattle.analysis.specs.Response.{responseTime, isLate, late, passes}
 use Rattle.analysis.specs.Answers.{outcomeOf, entryFrom, entryOf, ownTasks, timedRefusal, timedAnswer, choiceRefusal, assessmentOf, choiceAssessment, ownAssessment}
+use Rattle.analysis.specs.Low.{low, lowWithin}
 use Rattle.analysis.proofs.Climbing.{Least, least-says}
 use Rattle.analysis.proofs.Demands.{passes-exactly}
+use Rattle.analysis.proofs.Raised.{low-response}
 use Rattle.replay.specs.declared.Cell.{Cell}
 use Rattle.replay.specs.declared.Counts.{Counts}
 use Rattle.replay.specs.declared.Machine.{Machine}
@@ -38,10 +40,9 @@ use Rattle.replay.proofs.Joined.{accepted}
 use Rattle.replay.proofs.Kept.{done-count}
 use Rattle.replay.proofs.Order.{whole-tells}
 use Rattle.replay.proofs.Demands.{sheet-passed, log-passed, counts-wrap}
-use Rattle.runs.specs.Low.{low, lowWithin, EachRaised}
+use Rattle.runs.specs.Raised.{EachRaised}
 use Rattle.runs.specs.Ticks.{placeOf, cellIn, missesAt, finishesAt, ReleasedAt}
 use Rattle.runs.proofs.Equation.{places, record-good, fault-own}
-use Rattle.runs.proofs.Raised.{low-response}
 use Rattle.runs.proofs.Along.{Sound, sound-at, past-misses-none, misses-none, finished-within, none-total}
 use Rattle.runs.proofs.Started.{free, sound-start, open-start}
 

@@ -17,40 +17,25 @@ use Rattle.sheet.proofs.Cases.{Good, GoodTable, good-table, good-at}
 use Rattle.sheet.proofs.Demands.{table-good}
 use Rattle.sheet.proofs.Onto.{Numbering, onto}
 use Rattle.sheet.proofs.Ranks.{ranked}
-use Rattle.sheet.proofs.Tells.{Tells, or-tells, and-tells, eqb-tells, ltb-tells}
 use Rattle.analysis.specs.Rounding.{up}
 use Rattle.analysis.specs.Totals.{sumBelow}
 use Rattle.analysis.specs.Tasks.{Tasks}
 use Rattle.analysis.specs.Backups.{others}
 use Rattle.analysis.specs.Answers.{ownTasks}
+use Rattle.analysis.specs.Low.{isOver, backupAhead, low}
 use Rattle.analysis.proofs.Rounding.{up-least}
-use Rattle.analysis.proofs.Totalled.{most-part}
 use Rattle.analysis.proofs.Gathered.{sum-reordered, sum-until}
 use Rattle.analysis.proofs.Choice.{own-at}
+use Rattle.analysis.proofs.Raised.{ahead-most}
 use Rattle.replay.specs.declared.Cell.{Cell}
 use Rattle.replay.specs.Runner.{levelOf}
 use Rattle.replay.specs.Step.{released, struck}
 use Rattle.replay.specs.Machines.{machineOf}
 use Rattle.replay.proofs.Placed.{task-none, task-of-sheet}
 use Rattle.runs.specs.Ticks.{placeOf}
-use Rattle.runs.specs.Low.{isOver, isAhead, backupAhead, low}
 use Rattle.runs.proofs.Summed.{sum-one}
-use Rattle.runs.proofs.Counting.{tells-so, counts, Counts, own, higher, beside, counts-why}
+use Rattle.runs.proofs.Counting.{counts, Counts, own, higher, beside, counts-why}
 use Rattle.runs.proofs.Window.{most, Enough}
-
--- `isAhead` tells why a task is ahead
-pub ahead-tells : (s : Tasks) (i k : ℕ) → Tells ((k ≡ i) ⊎ ((s .fault i < s .fault k) ⊎ ((s .fault k ≡ s .fault i) × (s .at i .priority < s .at k .priority)))) (isAhead s i k)
-unfolding isAhead
-ahead-tells s i k =
-    or-tells (eqb-tells k i) (or-tells (ltb-tells (s .fault i) (s .fault k)) (and-tells (eqb-tells (s .fault k) (s .fault i)) (ltb-tells (s .at i .priority) (s .at k .priority))))
-
--- the backup of a task that is ahead is at most N
-pub ahead-most : (s : Tasks) (i k : ℕ) → k < s .count → (k ≡ i) ⊎ ((s .fault i < s .fault k) ⊎ ((s .fault k ≡ s .fault i) × (s .at i .priority < s .at k .priority))) → s .at k .backup ≤ backupAhead s i
-unfolding backupAhead
-ahead-most s i k below why =
-    let part = most-part (λ n. cond (isAhead s i n) (s .at n .backup) 0) (s .count) k below in
-    let whole : cond (isAhead s i k) (s .at k .backup) 0 ≡ s .at k .backup = simp (tells-so (ahead-tells s i k) why) in
-    omega (arith, part, whole)
 
 module _ (sheet : List ℕ) (good : sheetRefusal sheet ≡ 0) where
   abbrev table : Table

@@ -5,7 +5,6 @@ pub mod Counting
 pub mod Window
 pub mod Along
 pub mod Equation
-pub mod Raised
 pub mod Started
 pub mod Demands
 pub mod Rows

@@ -16,6 +16,7 @@ use Rattle.analysis.specs.Search.{firstFrom, leastWithin}
 use Rattle.analysis.specs.Response.{timeElsewhere, timeItself, responseWithin, responseTime, isLate, passes}
 use Rattle.analysis.specs.Allowed.{levelsOf, isAllowed, allAllowed}
 use Rattle.analysis.specs.Answers.{ownTasks, choiceRefusal, assessmentOf, choiceAssessment, ownAssessment}
+use Rattle.analysis.specs.Low.{isOver, isAhead, backupAhead, low, lowWithin}
 use Rattle.replay.specs.Tick.{isReleased, isAbove, isMarked, hasOther}
 use Rattle.replay.specs.Cells.{cellAt, eight, isReady, oneIf, countBelow}
 use Rattle.replay.specs.Runner.{highest, levelOf, isAt, topLevel, topBackup, runner}
@@ -26,7 +27,6 @@ use Rattle.replay.specs.Rules.{sharedRefusal, startRefusal, isStrange, isEarly,
 use Rattle.replay.specs.Positions.{releasesAt, faultsAt}
 use Rattle.replay.specs.Totals.{machineAt}
 use Rattle.replay.specs.Answers.{replayRefusal, replayAnswer}
-use Rattle.runs.specs.Low.{isOver, isAhead, backupAhead, low, lowWithin}
 use Rattle.runs.specs.Ticks.{cellIn, missesAt}
 
 -- Tasks (C, B, D, T, p, q): 1 4 50 50 3 1; 3 1 5 25 2 1; 1 1 25 25 1 1; E = 5.

@@ -9,6 +9,8 @@ use Rattle.sheet.specs.Rules.{sheetRefusal}
 use Rattle.sheet.proofs.Cases.{good-table}
 use Rattle.sheet.proofs.Demands.{table-good}
 use Rattle.analysis.specs.Answers.{ownTasks}
+use Rattle.analysis.specs.Low.{backupAhead, low}
+use Rattle.analysis.proofs.Totalled.{sum-none}
 use Rattle.replay.specs.declared.Cell.{Cell}
 use Rattle.replay.specs.declared.Machine.{Machine}
 use Rattle.replay.specs.Cells.{noCell, cellAt}
@@ -16,8 +18,6 @@ use Rattle.replay.specs.Machines.{machineOf}
 use Rattle.replay.proofs.Placed.{faults-small, task-good}
 use Rattle.replay.proofs.Demands.{started-free}
 use Rattle.runs.specs.Ticks.{placeOf}
-use Rattle.runs.specs.Low.{backupAhead, low}
-use Rattle.runs.proofs.Summed.{sum-none}
 use Rattle.runs.proofs.Counting.{counts}
 use Rattle.runs.proofs.Window.{workAt, work}
 use Rattle.runs.proofs.Equation.{faults-under, enough-low}

@@ -1,11 +1,11 @@
 -- Sums over places that rise or fall together, and a bound of the largest. Assumes nothing.
 use Prim.Native.Nat.{ℕ, zero, suc, _+_, _≤_, _<_}
-use mathlib.Core.Path.{_≡_, refl}
+use mathlib.Core.Path.{_≡_}
 use mathlib.Core.Logic.{_⊎_, ⊎-elim}
 use native.Mathlib.Nat.{not-suc-le-zero, eq-or-lt-of-le, le-of-suc-le-suc}
 use native.Mathlib.Decide.{decLe}
 use native.Mathlib.Omega.{arith}
-use Rattle.analysis.specs.Totals.{sumBelow, mostBelow}
+use Rattle.analysis.specs.Totals.{sumBelow}
 use Rattle.analysis.proofs.Totalled.{sum-agree}
 
 -- two pairs of values, of which one pair is at most the other at each place
@@ -37,15 +37,3 @@ sum-some f (suc n) some = go (decLe 1 (f n)) (sum-some f n)
     go : Dec (1 ≤ f n) → (1 ≤ sumBelow f n → (k : ℕ) × (k < n) × (1 ≤ f k)) → (k : ℕ) × (k < suc n) × (1 ≤ f k)
     go (yes here) rest = (n, omega arith, here)
     go (no none) rest = let w = rest (omega arith) in (w .0, omega (arith, w .1), w .2)
-
--- a sum of nothing
-pub sum-none : (f : ℕ → ℕ) (n : ℕ) → ((k : ℕ) → k < n → f k ≡ 0) → sumBelow f n ≡ 0
-unfolding sumBelow
-sum-none f zero none = refl
-sum-none f (suc n) none = omega (arith, sum-none f n (λ k below. none k (omega arith)), none n (omega arith))
-
--- what bounds the value of each place bounds the largest
-pub most-within : (f : ℕ → ℕ) (n bound : ℕ) → ((k : ℕ) → k < n → f k ≤ bound) → mostBelow f n ≤ bound
-unfolding mostBelow
-most-within f zero bound each = omega arith
-most-within f (suc n) bound each = omega (arith, most-within f n bound (λ k below. each k (omega arith)), each n (omega arith))

@@ -10,7 +10,7 @@ use lib.Dec.{eqb, leb}
 use Rattle.sheet.specs.declared.Record.{Record}
 use Rattle.analysis.specs.Rounding.{up}
 use Rattle.analysis.specs.Totals.{sumBelow}
-use Rattle.analysis.proofs.Totalled.{sum-rises, sum-part}
+use Rattle.analysis.proofs.Totalled.{sum-rises, sum-part, sum-none}
 use Rattle.replay.specs.declared.Cell.{Cell}
 use Rattle.replay.specs.Tick.{isReleased}
 use Rattle.replay.specs.Cells.{isReady}
@@ -21,7 +21,7 @@ use Rattle.replay.proofs.Struck.{others-kept, runner-changed}
 use Rattle.replay.proofs.Ordered.{runs-first, idle-none, runner-at-most}
 use Rattle.replay.proofs.Ticked.{rest-kept, wait-kept}
 use Rattle.replay.proofs.Kept.{ready-some}
-use Rattle.runs.proofs.Summed.{sum-pairs, sum-one, sum-some, sum-none}
+use Rattle.runs.proofs.Summed.{sum-pairs, sum-one, sum-some}
 use Rattle.runs.proofs.Paced.{times, times-comes, times-ends, times-most}
 use Rattle.runs.proofs.Counting.{counts, counts-worked, counts-ended, counts-own, counts-before, counts-ahead}
 

@@ -1,3 +1,3 @@
--- What a reader of the theorems must believe beside the definitions of analysis and replay: the equation "low", and what a tick of a log shows of a task.
-pub mod Low
+-- What a reader of the theorems must believe beside the definitions of analysis and replay: when fault priorities are the priorities, and what a tick of a log shows of a task.
+pub mod Raised
 pub mod Ticks

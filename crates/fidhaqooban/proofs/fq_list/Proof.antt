@@ -2,6 +2,10 @@
 use mathlib.Core.Path.{_∙_}
 use native.Mathlib.Omega.{arith}
 use borrow.Author.Tests.{ne-eqb}
+use Rattle.sheet.specs.Rules.{tableRefusal}
+use Rattle.analysis.specs.Response.{passes}
+use Rattle.choices.specs.Choices.{passingOf}
+use Rattle.choices.specs.Answers.{listRefusal, listAnswer, listLeaves}
 use Rattle.fidhaqooban.specs.Answers.{listingRefusal, listNumber, listLeft}
 use Rattle.fidhaqooban.proofs.Minus.{handed}
 use Rattle.fidhaqooban.proofs.Answered.{broken-read, first-refused}
@@ -27,17 +31,19 @@ list-requires : tie.Need-list-requires
 list-requires c κs = search needs
 
 answer-requires-2 : tie.Need-answer-requires-2
-answer-requires-2 c κs = omega (arith, list-room _ _ (c .before .before .before .before .before .before .before .read .ensures) (c .before .before .before .before .before .if1 .left) _ _ (c .before .before .list .ensures .0))
+unfolding listAnswer listLeaves listRefusal passingOf
+answer-requires-2 c κs = omega (arith, list-room passes _ _ (c .before .before .before .before .before .before .before .read .ensures) (c .before .before .before .before .before .if1 .left) tableRefusal _ _ (c .before .before .list .ensures .0))
 
 same-length : tie.Need-same-length
 same-length c = search needs
 
 returns-2 : tie.Need-returns-2
+unfolding listNumber listLeft listingRefusal listAnswer listLeaves listRefusal passingOf
 returns-2 c =
     let read = c .before .before .before .before .before .before .before .before .read .ensures in
     let left = c .before .before .before .before .before .before .if1 .left in
     let known = c .before .before .before .list .ensures in
-    (handed (c .answer2 .result) (c .answer2 .ok) ∙ c .answer2 .ensures ∙ list-is _ _ read left _ _ (known .0), known .1 ∙ list-leaves _ _ read left _)
+    (handed (c .answer2 .result) (c .answer2 .ok) ∙ c .answer2 .ensures ∙ list-is passes _ _ read left tableRefusal _ _ (known .0), known .1 ∙ list-leaves passes _ _ read left tableRefusal _)
 
 pub fq-list-spec : {M : Type 1} → statement M
 fq-list-spec =

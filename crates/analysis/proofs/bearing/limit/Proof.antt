@@ -7,6 +7,7 @@ use lib.Dec.{leb}
 use lib.ListN.{getD, replicate}
 use Rattle.sheet.specs.declared.Table.{Table}
 use Rattle.sheet.specs.Layout.{recordAt}
+use Rattle.analysis.specs.declared.Rule.{Rule}
 use Rattle.analysis.specs.Totals.{mostBelow}
 use Rattle.analysis.specs.Tasks.{tasksOf}
 use Rattle.analysis.specs.Backups.{backupOf}
@@ -19,14 +20,14 @@ use Rattle.analysis.proofs.bearing.limit.Statement.{statement}
 use Rattle.analysis.proofs.bearing.limit.Tie as tie
 
 -- what each record's backup brings
-abbrev brought : Table → ℕ → ℕ → ℕ → ℕ
-brought table rank fault k = borne (bears (tasksOf table (table .interval) []) rank fault) (recordAt (table .records) k .backup)
+abbrev brought : Rule → Table → ℕ → ℕ → ℕ → ℕ
+brought rule table rank fault k = borne (bears rule (tasksOf table (table .interval) []) rank fault) (recordAt (table .records) k .backup)
 
 abbrev Inv-loop : tie.InvT-loop
-Inv-loop rank fault table count largest most₀ other₀ most other = (other ≤ count) × (most ≡ max most₀ (mostBelow (brought table rank fault) other))
+Inv-loop rank fault rule table count largest most₀ other₀ most other = (other ≤ count) × (most ≡ max most₀ (mostBelow (brought rule table rank fault) other))
 
 abbrev μ-loop : tie.MeasureT-loop
-μ-loop rank fault table count largest most₀ other₀ most other = count - other
+μ-loop rank fault rule table count largest most₀ other₀ most other = count - other
 
 cast-count : tie.Need-cast-count Inv-loop μ-loop
 cast-count c = search needs
@@ -63,7 +64,7 @@ unfolding recordAt
 loop-again c =
     let at = c .before .before .loop in
     let args = c .before .before .before .before .before .args in
-    (omega arith, omega (arith, c .raised2 .ensures, at .inv .1, most-more (brought (args .t1) (args .rank) (args .fault)) (at .other)))
+    (omega arith, omega (arith, c .raised2 .ensures, at .inv .1, most-more (brought (args .rule) (args .t1) (args .rank) (args .fault)) (at .other)))
 
 raised-requires-3 : tie.Need-raised-requires-3 Inv-loop μ-loop
 raised-requires-3 c κs = c .before .before .before .before .pre
@@ -73,9 +74,9 @@ unfolding limitOf largestBefore backupOf
 returns c =
     let at = c .before .before in
     let args = at .before .before .before .args in
-    let test = bears (tasksOf (args .t1) (args .t1 .interval) []) (args .rank) (args .fault) in
+    let test = bears (args .rule) (tasksOf (args .t1) (args .t1 .interval) []) (args .rank) (args .fault) in
     let all : at .loop .other ≡ args .t1 .count = omega arith in
-    let sofar = at .loop .inv .1 ∙ ap (λ (n : ℕ). max (at .before .raised .result) (mostBelow (brought (args .t1) (args .rank) (args .fault)) n)) all in
+    let sofar = at .loop .inv .1 ∙ ap (λ (n : ℕ). max (at .before .raised .result) (mostBelow (brought (args .rule) (args .t1) (args .rank) (args .fault)) n)) all in
     let first = at .before .raised .ensures ∙ ap (λ (n : ℕ). max 0 (borne test n)) (at .before .before .largest .ensures) in
     let within = largest-within test (λ k. recordAt (args .t1 .records) k .backup) (args .t1 .count) (λ k. leb 0 (getD (replicate 8 0) k 0)) in
     omega (arith, c .raised3 .ensures, sofar, first, within)

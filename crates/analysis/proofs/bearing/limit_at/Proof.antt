@@ -47,8 +47,8 @@ returns-2 c =
     let given = c .before .before .before in
     let args = given .args in
     c .limit .ensures
-    ∙ ap (λ (rank : ℕ). limitOf (bears (tasksOf (args .held .table) (args .held .table .interval) []) rank (args .fault)) (λ k. recordAt (args .held .table .records) k .backup) (args .held .table .count)) (c .before .rank-of .ensures .0)
-    ∙ limit-there (args .t1) (given .pre .0) _ (args .held) (given .pre .1) (args .place) (args .fault) (given .pre .2) (omega arith)
+    ∙ ap (λ (rank : ℕ). limitOf (bears (args .rule) (tasksOf (args .held .table) (args .held .table .interval) []) rank (args .fault)) (λ k. recordAt (args .held .table .records) k .backup) (args .held .table .count)) (c .before .rank-of .ensures .0)
+    ∙ limit-there (args .t1) (given .pre .0) _ (args .held) (given .pre .1) (args .rule) (args .place) (args .fault) (given .pre .2) (omega arith)
 
 pub limit-at-spec : {M : Type 1} → statement M
 limit-at-spec =

@@ -8,20 +8,21 @@ use Rattle.sheet.specs.declared.Table.{Table}
 use Rattle.sheet.specs.Places.{filledBelow}
 use Rattle.sheet.proofs.Turns.{fill-more}
 use Rattle.sheet.proofs.Cases.{good-table}
+use Rattle.analysis.specs.declared.Rule.{Rule}
 use Rattle.analysis.specs.Bounds.{limitAt}
 use borrow.Author.Needs.{needs}
 use Rattle.analysis.proofs.bearing.limits_of.Statement.{statement}
 use Rattle.analysis.proofs.bearing.limits_of.Tie as tie
 
 -- the limit at each index
-abbrev limitIn : Table → ℕ → ℕ
-limitIn table k = limitAt table (k / 9) (k % 9)
+abbrev limitIn : Rule → Table → ℕ → ℕ
+limitIn rule table k = limitAt rule table (k / 9) (k % 9)
 
 abbrev Inv-loop : tie.InvT-loop
-Inv-loop table held end limits₀ at₀ limits at = (at ≤ end) × (end ≤ 72) × (limits ≡ filledBelow (limitIn table) at (replicate 72 0))
+Inv-loop table rule held end limits₀ at₀ limits at = (at ≤ end) × (end ≤ 72) × (limits ≡ filledBelow (limitIn rule table) at (replicate 72 0))
 
 abbrev μ-loop : tie.MeasureT-loop
-μ-loop table held end limits₀ at₀ limits at = end - at
+μ-loop table rule held end limits₀ at₀ limits at = end - at
 
 ordered-requires : tie.Need-ordered-requires Inv-loop μ-loop
 ordered-requires c κs = search needs
@@ -62,13 +63,15 @@ loop-again : tie.Need-loop-again Inv-loop μ-loop
 loop-again c =
     let at = c .before .before .loop in
     let table = c .before .before .before .before .before .args .table in
-    (omega arith, at .inv .1, ap₂ (λ (l : List ℕ) (n : ℕ). set l (at .at) n) (at .inv .2) (c .limit-at .ensures) ∙ sym (fill-more (limitIn table) (at .at) (replicate 72 0)))
+    let rule = c .before .before .before .before .before .args .rule in
+    (omega arith, at .inv .1, ap₂ (λ (l : List ℕ) (n : ℕ). set l (at .at) n) (at .inv .2) (c .limit-at .ensures) ∙ sym (fill-more (limitIn rule table) (at .at) (replicate 72 0)))
 
 returns : tie.Need-returns Inv-loop μ-loop
 returns c =
     let table = c .before .before .before .before .args .table in
+    let rule = c .before .before .before .before .args .rule in
     let all : c .before .loop .at ≡ 9 * table .count = omega arith in
-    c .before .loop .inv .2 ∙ ap (λ (n : ℕ). filledBelow (limitIn table) n (replicate 72 0)) all
+    c .before .loop .inv .2 ∙ ap (λ (n : ℕ). filledBelow (limitIn rule table) n (replicate 72 0)) all
 
 pub limits-of-spec : {M : Type 1} → statement M
 limits-of-spec =

@@ -1,80 +1,17 @@
 -- `choices::Walk::step` meets its contract. Assumes nothing.
-use Prim.Native.Nat.{ℕ}
-use mathlib.Core.Path.{sym, ap, _∙_}
-use mathlib.Core.List.{List}
-use borrow.Author.Tests.{ne-eqb}
-use Rattle.choices.proofs.Advancing.{good-start}
-use Rattle.choices.proofs.Listed.{found-there, found-none}
-use Rattle.choices.proofs.LowestTask.{tested-none}
-use Rattle.choices.specs.declared.Arrival.the-variants.{Refused}
-use Rattle.choices.specs.declared.Walk.{Walk}
-use Rattle.choices.specs.Choices.{sift, passingOf}
-use Rattle.choices.specs.Order.{afterOf}
-use Rattle.choices.specs.Answers.{arriveAt, stepAnswer}
+use Rattle.analysis.specs.Judged.{holds, ruleRefusal}
+use Rattle.choices.specs.Choices.{passingOf}
+use Rattle.choices.specs.Answers.{walkRefusal, startRefusal, stepAnswer, stepBy}
 use borrow.Author.Needs.{needs}
 use Rattle.choices.proofs.Walk.step.Statement.{statement}
 use Rattle.choices.proofs.Walk.step.Tie as tie
 
-judge-start-requires : tie.Need-judge-start-requires
-judge-start-requires c κs = search needs
-
-start-requires : tie.Need-start-requires
-start-requires c κs = search needs
+step-by-requires : tie.Need-step-by-requires
+step-by-requires c κs = search needs
 
 returns : tie.Need-returns
-unfolding stepAnswer
-returns c =
-    let refused = c .before .if1 .taken in
-    let said = c .before .before .judge-start .ensures in
-    rw (← said) (simp (ne-eqb _ 0 refused) (ap (λ (w : Walk). record { walk = w; arrival = Refused (c .before .before .judge-start .result) }) (c .start .ensures)))
-
-is-late-requires : tie.Need-is-late-requires
-is-late-requires c κs =
-    good-start _ _ .0 (sym (c .before .judge-start .ensures) ∙ c .if1 .left) .0
-
-returns-2 : tie.Need-returns-2
-unfolding stepAnswer arriveAt afterOf sift
-returns-2 c =
-    let given = c .before .before .before .before .before in
-    let good = sym (c .before .before .before .judge-start .ensures) ∙ c .before .before .if1 .left in
-    let none = tested-none (given .args .table) (good-start _ _ .0 good .0) (sym (c .before .is-late .ensures) ∙ c .if2 .taken) in
-    simp good (ap (λ (list : List (List ℕ)). arriveAt (given .args .self) (afterOf (given .args .self .entries) list)) (sym none))
-
-no-bounds-requires : tie.Need-no-bounds-requires
-no-bounds-requires c κs = search needs
-
-advance-requires : tie.Need-advance-requires
-advance-requires c κs =
-    (sym (c .before .before .before .before .judge-start .ensures) ∙ c .before .before .before .if1 .left, λ some. absurd (some (c .no-bounds .ensures)))
-
-returns-3 : tie.Need-returns-3
-unfolding stepAnswer arriveAt
-returns-3 c =
-    let asked = c .before .before .before .before in
-    let given = asked .before .before .before .before .before in
-    let good = sym (asked .before .before .before .judge-start .ensures) ∙ asked .before .before .if1 .left in
-    let listed = found-there _ (afterOf (given .args .self .entries) (passingOf (given .args .table))) _ (c .before .before .advance .ensures) (c .before .if3 .taken) in
-    simp good (ap (arriveAt (given .args .self)) (sym listed))
-
-returns-4 : tie.Need-returns-4
-unfolding stepAnswer arriveAt
-returns-4 c =
-    let asked = c .before .before .before in
-    let given = asked .before .before .before .before .before in
-    let good = sym (asked .before .before .before .judge-start .ensures) ∙ asked .before .before .if1 .left in
-    let ended = found-none _ (afterOf (given .args .self .entries) (passingOf (given .args .table))) _ (c .before .advance .ensures) (c .if3 .left) in
-    simp good (ap (arriveAt (given .args .self)) (sym ended))
+unfolding stepAnswer stepBy walkRefusal startRefusal ruleRefusal passingOf holds
+returns c = c .step-by .ensures
 
 pub step-spec : {M : Type 1} → statement M
-step-spec =
-    tie.close
-    (tie.spec
-    judge-start-requires
-    start-requires
-    returns
-    is-late-requires
-    returns-2
-    no-bounds-requires
-    advance-requires
-    returns-3
-    returns-4)
+step-spec = tie.close (tie.spec step-by-requires returns)

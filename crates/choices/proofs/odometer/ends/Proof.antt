@@ -12,7 +12,7 @@ is-hopeless-requires c κs = search needs
 returns : tie.Need-returns
 returns c is =
     let given = c .before .before .before .before in
-    hopeless-none (given .args .table) (given .pre) (sym (c .is-hopeless .ensures) ∙ is)
+    hopeless-none (given .args .table) (given .args .rule) (given .pre) (sym (c .is-hopeless .ensures) ∙ is)
 
 returns-2 : tie.Need-returns-2
 returns-2 c is = absurd (false≢true is)

@@ -8,19 +8,19 @@ use Rattle.choices.proofs.odometer.judge_start.Tie as tie
 all-zero-requires : tie.Need-all-zero-requires
 all-zero-requires c κs = search needs
 
-judge-table-requires : tie.Need-judge-table-requires
-judge-table-requires c κs = search needs
+judge-rule-requires : tie.Need-judge-rule-requires
+judge-rule-requires c κs = search needs
 
 returns : tie.Need-returns
-returns c = c .judge-table .ensures ∙ zero-refusal _ _ (sym (c .before .before .all-zero .ensures) ∙ c .before .if1 .taken)
+returns c = c .judge-rule .ensures ∙ zero-refusal _ _ _ (sym (c .before .before .all-zero .ensures) ∙ c .before .if1 .taken)
 
-judge-choice-requires : tie.Need-judge-choice-requires
-judge-choice-requires c κs = search needs
+judge-choice-by-requires : tie.Need-judge-choice-by-requires
+judge-choice-by-requires c κs = search needs
 
 returns-2 : tie.Need-returns-2
-returns-2 c = c .judge-choice .ensures ∙ choice-refusal _ _ (sym (c .before .before .all-zero .ensures) ∙ c .before .if1 .left)
+returns-2 c = c .judge-choice-by .ensures ∙ choice-refusal _ _ _ (sym (c .before .before .all-zero .ensures) ∙ c .before .if1 .left)
 
 pub judge-start-spec : {M : Type 1} → statement M
 judge-start-spec =
     tie.close
-    (tie.spec all-zero-requires judge-table-requires returns judge-choice-requires returns-2)
+    (tie.spec all-zero-requires judge-rule-requires returns judge-choice-by-requires returns-2)

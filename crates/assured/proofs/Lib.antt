@@ -1,0 +1,7 @@
+-- Laws that belong to no one function.
+pub mod Answered
+pub mod Replacing
+pub mod Request
+pub mod Demands
+pub mod Rows
+pub mod Unique

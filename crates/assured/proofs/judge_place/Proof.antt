@@ -1,0 +1,36 @@
+-- `assured::judge_place` meets its contract. Assumes nothing.
+use mathlib.Core.Path.{sym, _∙_}
+use borrow.Author.Tests.{lt-ltb, le-ltb}
+use Rattle.sheet.proofs.Turns.{first-of, next-of}
+use Rattle.assured.specs.Answers.{placeRefusal}
+use Rattle.assured.proofs.Answered.{refusal-low}
+use borrow.Author.Needs.{needs}
+use Rattle.assured.proofs.judge_place.Statement.{statement}
+use Rattle.assured.proofs.judge_place.Tie as tie
+
+judge-rule-requires : tie.Need-judge-rule-requires
+judge-rule-requires c κs = search needs
+
+returns : tie.Need-returns
+unfolding placeRefusal
+returns c =
+    let said = c .before .judge-rule .ensures ∙ sym (refusal-low _) in
+    said ∙ sym (first-of _ _ (λ e. c .if1 .taken (said ∙ e)))
+
+cast-if2 : tie.Need-cast-if2
+cast-if2 c = search needs
+
+returns-2 : tie.Need-returns-2
+unfolding placeRefusal
+returns-2 c =
+    let fine = refusal-low _ ∙ sym (c .before .before .before .judge-rule .ensures) ∙ c .before .before .if1 .left in
+    sym (next-of _ fine ∙ simp (lt-ltb _ _ (c .if2 .taken)))
+
+returns-3 : tie.Need-returns-3
+unfolding placeRefusal
+returns-3 c =
+    let fine = refusal-low _ ∙ sym (c .before .before .before .judge-rule .ensures) ∙ c .before .before .if1 .left in
+    sym (next-of _ fine ∙ simp (le-ltb _ _ (c .if2 .left)))
+
+pub judge-place-spec : {M : Type 1} → statement M
+judge-place-spec = tie.close (tie.spec judge-rule-requires returns cast-if2 returns-2 returns-3)
