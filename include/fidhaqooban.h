@@ -38,7 +38,7 @@ extern "C" {
 #endif
 
 /* The version of this header and library; `./desk --version` prints the same. */
-#define FQ_VERSION "1.15.0"
+#define FQ_VERSION "1.16.0"
 
 /*
  * What a refused call gives, in the order in which the rules are tried: the number of the first rule broken,

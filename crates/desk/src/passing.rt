@@ -1,55 +1,70 @@
-// The passing choices and their number.
-use crate::output;
-use crate::output::Kept;
-use choices::Arrival;
-use choices::Walk;
-use report::Line;
+// The passing choices and their number, printed from the library's list.
+ghost use mathlib.Core.Path.{_≡_};
+ghost use lib.ListN.{length};
+use console::output;
+use console::output::Kept;
+use report::Name;
 use sheet::Table;
 
-// How many choices a sheet of eight tasks has, which is as many as a walk can come to.
-const CHOICES: u64 = 40320;
+// How many choices a sheet of eight tasks has: no list is longer.
+const CHOICES: usize = 40320;
 
-// Whether a step came to a passing choice.
-fn is_passing(arrival: Arrival) -> bool {
-    match arrival {
-        Arrival::Passing => true,
-        Arrival::End => false,
-        Arrival::Refused(_) => false,
-    }
+// Room for the list of any sheet, four bytes for each choice.
+pub fn room() -> [u8; 161280]
+    ensures { λ r. ⌜ 161280 ≡ length r ⌝ }
+{
+    [0; 161280]
 }
 
-// Gathers the line of the first choice and writes it at once, or gathers that of a later one.
-fn keep(buffer: &mut [u8], end: usize, line: Line, number: u64) -> Kept {
-    if number == 1 {
-        if output::finish(buffer, end, line) {
-            return Kept::Next(0);
-        }
-        return Kept::Lost;
-    }
-    output::keep(buffer, end, line)
+// The byte at a place of a list, or 0 past it.
+fn byte(list: &[u8], at: usize) -> u8 {
+    if at < list.len() { list[at] } else { 0 }
 }
 
-// Prints a line for each passing choice, and the last line.
-pub fn print(table: Table) -> bool {
+// An entry of a list as a choice.
+fn choice(list: &[u8], number: usize) -> [u8; 8] {
+    if CHOICES <= number {
+        return [0u8; 8];
+    }
+    let first = byte(list, 4 * number);
+    let second = byte(list, 4 * number + 1);
+    let third = byte(list, 4 * number + 2);
+    let fourth = byte(list, 4 * number + 3);
+    [
+        first / 16,
+        first % 16,
+        second / 16,
+        second % 16,
+        third / 16,
+        third % 16,
+        fourth / 16,
+        fourth % 16,
+    ]
+}
+
+// Prints a line for each entry of a list of choices of so many tasks, and the last line.
+pub fn print_list(count: u8, list: &[u8], entries: usize) -> bool {
     let mut buffer = io::buffer();
-    let mut walk = Walk::start();
     let mut end: usize = 0;
-    let mut number: u64 = 0;
-    while number < CHOICES {
-        let stepped = walk.step(table);
-        let arrival = stepped.arrival;
-        if !is_passing(arrival) {
-            return output::finish(&mut buffer, end, report::end_line(number));
-        }
-        let next = stepped.walk;
-        walk = next;
-        number += 1;
-        let entries = walk.entries;
-        let line = report::pass_line(table.count, entries);
-        match keep(&mut buffer, end, line, number) {
+    let mut number: usize = 0;
+    while number < entries {
+        let line = report::pass_line(count, choice(list, number));
+        match output::keep(&mut buffer, end, line) {
             Kept::Next(next) => end = next,
             Kept::Lost => return false,
         }
+        number += 1;
     }
-    output::finish(&mut buffer, end, report::end_line(number))
+    output::finish(
+        &mut buffer,
+        end,
+        report::named_line(Name::End, number as u64),
+    )
+}
+
+// Prints every passing choice of a good table.
+pub fn print(table: Table) -> bool {
+    let mut list = room();
+    let listing = choices::list(table, &mut list);
+    print_list(table.count, &list, listing.entries)
 }

@@ -58,7 +58,7 @@ module _ (sheet : List ℕ) (reading : Reading) (read : reading ≡ readAnswer s
         simp (good, e ∙ ap machineOf (read-table (none-of (sheetRefusal sheet) _ good .0)))
 
 -- a machine of zeros has counted nothing
-none-counted : countsOf noMachine ≡ noCounts
+pub none-counted : countsOf noMachine ≡ noCounts
 unfolding countsOf countsFrom unfinishedIn countBelow cellAt isReady oneIf
 none-counted = refl
 
@@ -78,7 +78,7 @@ module _ (sheet log : List ℕ) (started : Run) (start : started ≡ startAnswer
     good : startRefusal sheet ≡ 0
     good = sym start-refusal ∙ passed
 
-    machine-started : started .machine ≡ machineOf (tableOf sheet)
+    pub machine-started : started .machine ≡ machineOf (tableOf sheet)
     unfolding startAnswer
     machine-started = ap (λ (r : Run). r .machine) start ∙ ap (λ (b : Bool). cond b (machineOf (tableOf sheet)) noMachine) (eq-eqb (startRefusal sheet) 0 good)
 

@@ -1,4 +1,4 @@
--- Laws that belong to no one function: places and bits; the machine's phases and who runs; logs; counts; what the calls answer; the demands.
+-- Laws that belong to no one function: places and bits; the machine's phases and who runs; logs; counts; what the calls answer; logs and records in pieces; the demands.
 pub mod Turns
 pub mod Found
 pub mod Counted
@@ -18,7 +18,10 @@ pub mod Placed
 pub mod Kept
 pub mod Added
 pub mod Answered
+pub mod Stepped
+pub mod Followed
 pub mod Rows
 pub mod Unique
 pub mod Demands
 pub mod Records
+pub mod Pieced

@@ -20,11 +20,11 @@ use Rattle.replay.proofs.History.{releases-shift, machine-shift}
 
 -- the first tick of a record decides whether any is counted
 module _ (m : Machine) (r f ran : ℕ) (supplied : List ℕ) where
-  more-match : ran ≡ shown m r → matching m (r ∷ f ∷ ran ∷ supplied) ≡ matching (tick m r f) supplied + 1
+  pub more-match : ran ≡ shown m r → matching m (r ∷ f ∷ ran ∷ supplied) ≡ matching (tick m r f) supplied + 1
   unfolding matching
   more-match same = simp (eq-eqb ran (shown m r) same)
 
-  none-match : (ran ≡ shown m r → ⊥) → matching m (r ∷ f ∷ ran ∷ supplied) ≡ 0
+  pub none-match : (ran ≡ shown m r → ⊥) → matching m (r ∷ f ∷ ran ∷ supplied) ≡ 0
   unfolding matching
   none-match other = simp (ne-eqb ran (shown m r) other)
 

@@ -2,7 +2,9 @@
 use Prim.Native.Nat.{ℕ}
 use mathlib.Core.Path.{_≡_, refl}
 use mathlib.Core.List.{List, [], _∷_}
-use lib.ListN.{take}
+use lib.ListN.{take, drop}
+use Rattle.replay.specs.declared.Replayed.{Replayed}
+use Rattle.replay.specs.declared.Checked.{Checked}
 use Rattle.replay.specs.declared.Checked.the-variants.{Refused, Accepted, Differs}
 use Rattle.sheet.specs.Places.{orElse, firstBelow, someBelow, filledBelow}
 use Rattle.sheet.specs.Packing.{regrouped}
@@ -16,7 +18,8 @@ use Rattle.replay.specs.Counts.{cellOf, gains, added, unfinishedIn, coun
 use Rattle.replay.specs.Machines.{withPriority, byPriority, machineOf, cellsEntered, runnerOf, cellsRan, tickGains, tick, ranOver, countsOf}
 use Rattle.replay.specs.Rules.{sharedRefusal, startRefusal, isStrange, isEarly, someEarly, isHasty, tickRefusal, ticksRefusal, logRefusal}
 use Rattle.replay.specs.Shown.{logIn, shown, matching, suppliedRefusal}
-use Rattle.replay.specs.Answers.{replayRefusal, replayAnswer, compared, checkRefusal, checkAnswer}
+use Rattle.replay.specs.Answers.{startAnswer, replayRefusal, replayAnswer, compared, checkRefusal, checkAnswer}
+use Rattle.replay.specs.Pieces.{beforeBytes, beforeLog, beforeRecord, holding, breaking, running, differsWith, ticked, stepped, followed, refusalAt, replayedAnswer, checkedAnswer}
 
 -- "Tasks (C, B, D, T, p, q): 4 4 100 100 3 1; 2 1 7 7 2 2; 1 1 100 100 1 1; E = 100."
 unfoldable pub sheet : List ℕ
@@ -51,3 +54,15 @@ supplied backup releases last =
 pub record-checked : (checkAnswer sheet (supplied 131 0 131) ≡ Accepted) × (checkAnswer sheet (supplied 3 0 131) ≡ Differs 6) × (checkAnswer sheet (supplied 131 0 0) ≡ Differs 11) × (checkAnswer sheet (supplied 3 8 131) ≡ Refused 15)
 unfolding sheet supplied orElse firstBelow someBelow filledBelow regrouped headerOf countOf editionOf intervalOf roundOf shareOf startOf sizeOf isWhole partOf recordFrom recordOf sheetRecord recordAt room tableOf outside wrongShare taken refusalOf recordRefusal recordsRefusal headerRefusal sheetRefusal sharedRefusal startRefusal isReleased isAbove isMarked hasOther cellAt eight isReady oneIf countBelow highest levelOf isAt topLevel topBackup runner entered runs ran faulted isLast isMissed ended gapAfter cellOf gains added withPriority byPriority machineOf cellsEntered runnerOf cellsRan tickGains tick isStrange isEarly someEarly isHasty tickRefusal ticksRefusal logRefusal logIn shown matching suppliedRefusal compared checkRefusal checkAnswer
 record-checked = (refl, refl, refl, refl)
+
+-- what is answered of a log, and of a record, whose first piece has so many bytes and whose second has the rest
+unfoldable pub replayedCut : ℕ → List ℕ → Replayed
+replayedCut bytes all = replayedAnswer (followed (followed (beforeLog sheet) (take bytes all)) (drop bytes all))
+
+unfoldable pub checkedCut : ℕ → List ℕ → Checked
+checkedCut bytes all = checkedAnswer (followed (followed (beforeRecord sheet) (take bytes all)) (drop bytes all))
+
+-- the same counts and answers with a tick cut in two; a tick that breaks 15, before one byte more, after which it is 14; a refusal after a tick that differs
+pub pieces-worked : (replayedCut 7 log ≡ replayAnswer sheet log) × (checkedCut 19 (supplied 131 0 131) ≡ Accepted) × (checkedCut 20 (supplied 3 0 131) ≡ Differs 6) × (replayedCut 1 (8 ∷ 0 ∷ []) .refusal ≡ 15) × (replayedCut 1 (8 ∷ 0 ∷ 0 ∷ []) .refusal ≡ 14) × (checkedCut 20 (supplied 3 8 131) ≡ Refused 15)
+unfolding replayedCut checkedCut sheet log supplied orElse firstBelow someBelow filledBelow regrouped headerOf countOf editionOf intervalOf roundOf shareOf startOf sizeOf isWhole partOf recordFrom recordOf sheetRecord recordAt room tableOf outside wrongShare taken refusalOf recordRefusal recordsRefusal headerRefusal sheetRefusal sharedRefusal startRefusal isReleased isAbove isMarked hasOther cellAt eight isReady oneIf countBelow highest levelOf isAt topLevel topBackup runner entered runs ran faulted isLast isMissed ended gapAfter cellOf gains added unfinishedIn countsFrom withPriority byPriority machineOf cellsEntered runnerOf cellsRan tickGains tick ranOver countsOf isStrange isEarly someEarly isHasty tickRefusal ticksRefusal logRefusal replayRefusal replayAnswer shown startAnswer beforeBytes beforeLog beforeRecord holding breaking running differsWith ticked stepped followed refusalAt replayedAnswer checkedAnswer
+pieces-worked = (refl, refl, refl, refl, refl, refl)

@@ -8,6 +8,7 @@ pub mod Machines
 pub mod Rules
 pub mod Shown
 pub mod Answers
+pub mod Pieces
 pub mod Positions
 pub mod Totals
 pub mod Bits

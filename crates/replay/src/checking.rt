@@ -11,7 +11,7 @@ use crate::runner;
 use crate::ticking;
 
 // What the machine's next tick must show: the priority of the task that runs, with the top bit set for a backup.
-fn shown(machine: Machine, releases: u8) -> u8
+pub fn shown(machine: Machine, releases: u8) -> u8
     ensures { λ r. ⌜ r ≡ shown machine releases ⌝ }
 {
     let tasks = machine.tasks;

@@ -12,7 +12,7 @@ use crate::phases;
 use crate::runner;
 
 // 1 for what is counted, 0 for what is not.
-fn one_if(holds: bool) -> u64
+pub fn one_if(holds: bool) -> u64
     ensures { λ r. ⌜ (r ≡ oneIf holds) × (r ≤ 1) ⌝ }
 {
     if holds { 1 } else { 0 }

@@ -1,9 +1,10 @@
 // Replay of the box's log: the machine tick by tick, the rules that a log is judged by, and the seven counts; and whether a supplier's
-// record shows what the machine does.
+// record shows what the machine does; both whole, or in pieces of any length.
 // Every call answers any bytes and any machine; a refusal gives its number, and zeros beside it.
 ghost use mathlib.Core.Path.{_≡_};
 ghost use Rattle.replay.specs.Machines.{countsOf};
 ghost use Rattle.replay.specs.Answers.{startAnswer, goOnAnswer, replayAnswer, checkAnswer};
+ghost use Rattle.replay.specs.Pieces.{beforeLog, beforeRecord, followed, replayedAnswer, checkedAnswer};
 use sheet::Record;
 
 mod bits;
@@ -11,6 +12,7 @@ mod checking;
 mod counting;
 mod logs;
 mod phases;
+mod pieces;
 mod rules;
 mod runner;
 mod ticking;
@@ -73,6 +75,21 @@ pub enum Checked {
     Refused(u8),
     Accepted,
     Differs(u64),
+}
+
+// A log or a supplier's record of which any number of bytes have been taken: whether it is a record; the sheet's refusal, and the first
+// that a tick was refused for, or 0; the machine after the ticks that were run; how many ticks showed what they must before one that
+// did not, and whether there was one; and how many bytes of an unfinished tick are held, with its releases and its faults.
+pub struct Following {
+    pub is_record: bool,
+    pub start: u8,
+    pub broken: u8,
+    pub machine: Machine,
+    pub same: u64,
+    pub differs: bool,
+    pub holds: u8,
+    pub releases: u8,
+    pub faults: u8,
 }
 
 impl Machine {
@@ -150,4 +167,68 @@ pub fn check(sheet: &[u8], supplied: &[u8]) -> Checked
         return Checked::Refused(refusal);
     }
     checking::check_record(machine, supplied)
+}
+
+impl Following {
+    // A sheet's log before its first byte.
+    pub fn log(sheet: &[u8]) -> Following
+        ensures { λ r. ⌜ r ≡ beforeLog (now (sheet .entry)) ⌝ }
+    {
+        pieces::before_bytes(false, Machine::start(sheet))
+    }
+
+    // A sheet's record before its first byte.
+    pub fn record(sheet: &[u8]) -> Following
+        ensures { λ r. ⌜ r ≡ beforeRecord (now (sheet .entry)) ⌝ }
+    {
+        pieces::before_bytes(true, Machine::start(sheet))
+    }
+
+    // After a further piece, of any length.
+    pub fn take(self, part: &[u8]) -> Following
+        ensures { λ r. ⌜ r ≡ followed self (now (part .entry)) ⌝ }
+    {
+        let mut following = self;
+        let mut at: usize = 0;
+        while at < part.len() {
+            let next = at
+                + pieces::next_bytes(following.is_record, following.holds, part.len() - at);
+            following = pieces::go_on(following, &part[at..next]);
+            at = next;
+        }
+        following
+    }
+
+    // What `replay` answers of the bytes so far.
+    pub fn replayed(self) -> Replayed
+        ensures { λ r. ⌜ r ≡ replayedAnswer self ⌝ }
+    {
+        let refusal = pieces::refusal_at(self.start, self.holds, self.broken);
+        if refusal != 0 {
+            let none = ticking::no_machine();
+            return Replayed {
+                refusal,
+                counts: none.counts(),
+            };
+        }
+        let machine = self.machine;
+        Replayed {
+            refusal: 0,
+            counts: machine.counts(),
+        }
+    }
+
+    // What `check` answers of the bytes so far.
+    pub fn checked(self) -> Checked
+        ensures { λ r. ⌜ r ≡ checkedAnswer self ⌝ }
+    {
+        let refusal = pieces::refusal_at(self.start, self.holds, self.broken);
+        if refusal != 0 {
+            return Checked::Refused(refusal);
+        }
+        if self.differs {
+            return Checked::Differs(self.same);
+        }
+        Checked::Accepted
+    }
 }

@@ -11,13 +11,15 @@ use lib.IntN.{ℤ, pos, negsuc}
 use lib.ListN.{length, getD, length-append, List·getD-append}
 use lib.Seq.{sets, getD-at}
 use Rattle.analysis.specs.declared.Entry.{Entry}
+use Rattle.mend.specs.declared.Change.{Change}
 use Rattle.report.specs.declared.Line.{Line}
+use Rattle.report.specs.declared.Name.{Name}
+use Rattle.report.specs.declared.Saying.{Saying}
 use Rattle.report.specs.Pages.{textOf, hasRoom, putEnd, putLeaves}
-use Rattle.report.specs.Words.{intervalWord, endWord, refusedWord}
 use Rattle.report.specs.Decimal.{digit, decimal, signed, valueAfter, valueOf}
-use Rattle.report.specs.Texts.{intervalText, taskText, passText, endText, refusedText}
+use Rattle.report.specs.Texts.{namedText, sayingText, taskText, passText, coreText, changeText, refusedAtText}
 use Rattle.report.proofs.Decimal.{by-digits, length-decimal}
-use Rattle.report.proofs.Fitting.{Held, held, held-number, Narrow, length-outcome, length-entries}
+use Rattle.report.proofs.Fitting.{Held, held, length-word, length-saying, Narrow, length-outcome, length-entries, length-changed}
 
 value-more : (before : ℕ) (ds : List ℕ) (d : ℕ) → valueAfter before (ds ++ (d ∷ [])) ≡ valueAfter before ds * 10 + (d - 48)
 unfolding valueAfter
@@ -87,9 +89,14 @@ signed-tells (negsuc a) (negsuc b) e = let same = sym (spells-its-number (suc a)
 signed-tells (pos a) (negsuc b) e = absurd (minus-no-digit a (ap (λ (l : List ℕ). getD l 0 0) e))
 signed-tells (negsuc a) (pos b) e = absurd (minus-no-digit b (sym (ap (λ (l : List ℕ). getD l 0 0) e)))
 
--- a line holds its whole text, whatever the call is given: the interval's,
-pub interval-held : (interval : ℕ) → interval < 2 ^ 16 → Held (intervalText interval)
-interval-held interval narrow = held-number intervalWord interval (omega arith) (omega arith)
+-- a line holds its whole text, whatever the call is given: that of a name and a number,
+pub named-held : (name : Name) (number : ℕ) → number < 2 ^ 64 → Held (namedText name number)
+unfolding namedText
+named-held name number narrow = held (namedText name number) (simp length-append (omega (arith, length-word name, length-decimal 19 number (omega arith))))
+
+-- words alone,
+pub saying-held : (saying : Saying) → Held (sayingText saying)
+saying-held saying = held (sayingText saying) (omega (arith, length-saying saying))
 
 -- a task's,
 pub task-held : (place : ℕ) (entry : Entry) → place < 2 ^ 8 → Narrow (entry .outcome) (entry .slack) → Held (taskText place entry)
@@ -102,13 +109,24 @@ pub pass-held : (count : ℕ) (choice : List ℕ) → ((place : ℕ) → getD ch
 unfolding passText
 pass-held count choice narrow = held (passText count choice) (simp length-append (omega (arith, length-entries choice narrow (min count 8))))
 
--- the last one,
-pub end-held : (number : ℕ) → number < 2 ^ 64 → Held (endText number)
-end-held number narrow = held-number endWord number (omega arith) narrow
+-- a core's,
+pub core-held : (place core : ℕ) → place < 2 ^ 8 → core < 2 ^ 8 → Held (coreText place core)
+unfolding coreText
+core-held place core narrow few =
+    held (coreText place core) (simp length-append (omega (arith, length-decimal 2 (place + 1) (omega arith), length-decimal 2 core (omega arith))))
 
--- and a refusal's
-pub refused-held : (refusal : ℕ) → refusal < 2 ^ 8 → Held (refusedText refusal)
-refused-held refusal narrow = held-number refusedWord refusal (omega arith) (omega arith)
+-- a change's,
+pub change-held : (change : Change) → change .place < 2 ^ 8 → change .old < 2 ^ 64 → change .new < 2 ^ 64 → Held (changeText change)
+unfolding changeText
+change-held change narrow old new =
+    held (changeText change) (simp length-append (omega (arith, length-changed (change .place) (change .field) narrow, length-decimal 19 (change .old) (omega arith), length-decimal 19 (change .new) (omega arith))))
+
+-- and that of a refusal with its line and column
+pub refused-at-held : (refusal line column : ℕ) → refusal < 2 ^ 8 → line < 2 ^ 64 → column < 2 ^ 64 → Held (refusedAtText refusal line column)
+unfolding refusedAtText
+refused-at-held refusal line column narrow lines columns =
+    held (refusedAtText refusal line column)
+    (simp length-append (omega (arith, length-decimal 2 refusal (omega arith), length-decimal 19 line (omega arith), length-decimal 19 column (omega arith))))
 
 -- `put_line`: a text that ends past the output is not put, and its place comes back
 pub put-no-room : (line : Line) (out : List ℕ) (at : ℕ) → length out < at + length (textOf line) → (putEnd line out at ≡ at) × (putLeaves line out at ≡ out)

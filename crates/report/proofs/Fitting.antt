@@ -1,7 +1,7 @@
 -- How long the texts are, and that a line holds the whole of a text that fits. Assumes nothing.
 use Prim.Native.Nat.{ℕ, zero, suc, _*_, _^_, _≤_, _<_}
 use mathlib.Core.Path.{_≡_, refl, ap, _∙_}
-use mathlib.Core.List.{List, _++_}
+use mathlib.Core.List.{List}
 use native.Mathlib.Omega.{arith}
 use lib.IntN.{ℤ}
 use lib.Signed.{mag}
@@ -12,9 +12,13 @@ use Rattle.analysis.specs.declared.Outcome.{Outcome}
 use Rattle.analysis.specs.declared.Outcome.the-variants.{OnTime, Late}
 use Rattle.analysis.specs.declared.Slack.{Slack}
 use Rattle.analysis.specs.declared.Slack.the-variants.{Figure, NoFigure}
-use Rattle.report.specs.Words.{newline}
-use Rattle.report.specs.Decimal.{decimal}
-use Rattle.report.specs.Texts.{lineOf, lateText, outcomeText, entryText}
+use Rattle.mend.specs.declared.Field.{Field}
+use Rattle.mend.specs.declared.Field.the-variants.{Length, Deadline, FaultPriority}
+use Rattle.report.specs.declared.Name.{Name}
+use Rattle.report.specs.declared.Name.the-variants.{Interval, Least, End, Refused, Attempts, Backups, Idle, Released, Finished, Missed, Unfinished, Differs, FitsNone}
+use Rattle.report.specs.declared.Saying.{Saying}
+use Rattle.report.specs.declared.Saying.the-variants.{NoInterval, Accepted, LoadInUse, LoadCandidate}
+use Rattle.report.specs.Texts.{lineOf, wordOf, sayingText, lateText, outcomeText, entryText, changedText}
 use Rattle.report.proofs.Decimal.{length-decimal}
 use Rattle.report.proofs.Signs.{length-signed}
 
@@ -22,13 +26,34 @@ use Rattle.report.proofs.Signs.{length-signed}
 abbrev pub Held : List ℕ → Type 0
 Held text = take (lineOf text .len) (lineOf text .bytes) ≡ text
 
-pub held : (text : List ℕ) → length text ≤ 40 → Held text
+pub held : (text : List ℕ) → length text ≤ 88 → Held text
 unfolding lineOf
-held text fits = ap (take (length text)) (sets-eq text (replicate 40 0) 0 (omega arith)) ∙ take-at text _ (length text) refl
+held text fits = ap (take (length text)) (sets-eq text (replicate 88 0) 0 (omega arith)) ∙ take-at text _ (length text) refl
 
--- a short word and a number of 64 bits
-pub held-number : (word : List ℕ) (n : ℕ) → length word ≤ 19 → n < 2 ^ 64 → Held (word ++ decimal n ++ newline)
-held-number word n short narrow = held (word ++ decimal n ++ newline) (simp length-append (omega (arith, length-decimal 19 n (omega arith))))
+-- a name's word has at most eleven bytes
+pub length-word : (name : Name) → length (wordOf name) ≤ 11
+unfolding wordOf
+length-word Interval = omega arith
+length-word Least = omega arith
+length-word End = omega arith
+length-word Refused = omega arith
+length-word Attempts = omega arith
+length-word Backups = omega arith
+length-word Idle = omega arith
+length-word Released = omega arith
+length-word Finished = omega arith
+length-word Missed = omega arith
+length-word Unfinished = omega arith
+length-word Differs = omega arith
+length-word FitsNone = omega arith
+
+-- words alone at most fifteen
+pub length-saying : (saying : Saying) → length (sayingText saying) ≤ 15
+unfolding sayingText
+length-saying NoInterval = omega arith
+length-saying Accepted = omega arith
+length-saying LoadInUse = omega arith
+length-saying LoadCandidate = omega arith
 
 -- a figure has 32 bits, and a time 16
 pub record Narrow (outcome : Outcome) (slack : Slack) : Type 0 where
@@ -48,3 +73,10 @@ unfolding joinedBelow entryText
 length-entries choice narrow zero = omega arith
 length-entries choice narrow (suc n) =
     omega (arith, length-append (joinedBelow (entryText choice) n) (entryText choice n), length-entries choice narrow n, length-decimal 2 (getD choice n 0) (omega (arith, narrow n)))
+
+-- what a change is made to has at most 25
+pub length-changed : (place : ℕ) (field : Field) → place < 2 ^ 8 → length (changedText place field) ≤ 25
+unfolding changedText
+length-changed place Length narrow = omega arith
+length-changed place Deadline narrow = simp length-append (omega (arith, length-decimal 2 place (omega arith)))
+length-changed place FaultPriority narrow = simp length-append (omega (arith, length-decimal 2 place (omega arith)))

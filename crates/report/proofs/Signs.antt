@@ -1,5 +1,5 @@
 -- A number of 32 bits with a sign, as the code prints it: less than 0 or not, and how far from 0. Assumes nothing.
-use Prim.Native.Nat.{suc, _^_, _≤_, _<_}
+use Prim.Native.Nat.{ℕ, suc, _^_, _≤_, _<_}
 use mathlib.Core.Path.{_≡_, refl, sym, ap, _∙_, subst}
 use mathlib.Core.Bool.{true, false, true≢false}
 use mathlib.Core.List.{_∷_}
@@ -37,16 +37,17 @@ unfolding signed
 length-signed (pos n) fits = omega (arith, length-decimal 9 n (omega arith))
 length-signed (negsuc n) fits = omega (arith, length-decimal 9 (suc n) (omega arith))
 
+-- a number is no farther from 0 than its width allows
+pub abs-within : (z : ℤ) (most : ℕ) → mag z < most → natAbs z ≤ most
+abs-within (pos n) most h = omega arith
+abs-within (negsuc n) most h = omega arith
+
 module _ (z : ℤ) (fits : mag z < 2 ^ 31) where
   pub back : toZ w32 (ofZ w32 z) ≡ z
   back = toZ-ofZ (record { sfits = fits })
 
   pub abs-small : natAbs z ≤ 2147483648
-  abs-small = go z fits
-    where
-      go : (k : ℤ) → mag k < 2 ^ 31 → natAbs k ≤ 2147483648
-      go (pos n) h = omega arith
-      go (negsuc n) h = omega arith
+  abs-small = abs-within z 2147483648 (omega arith)
 
   -- the same number in 64 bits
   pub widened-fits : SFits w64 (toZ w32 (ofZ w32 z))

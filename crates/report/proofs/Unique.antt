@@ -5,11 +5,17 @@ use Prim.Native.Nat.{ℕ}
 use Rattle.sheet.proofs.Unique.{both}
 use Rattle.analysis.specs.declared.Entry.{Entry}
 use Rattle.report.specs.declared.Line.{Line}
-use Rattle.report.specs.Texts.{lineOf, intervalText, taskText, passText, endText, refusedText}
+use Rattle.mend.specs.declared.Change.{Change}
+use Rattle.report.specs.declared.Name.{Name}
+use Rattle.report.specs.declared.Saying.{Saying}
+use Rattle.report.specs.Texts.{lineOf, namedText, sayingText, taskText, passText, coreText, changeText, refusedAtText}
 use Rattle.report.specs.Pages.{putEnd, putLeaves}
 
-pub interval-line-unique : (interval : ℕ) (a b : Line) → a ≡ lineOf (intervalText interval) → b ≡ lineOf (intervalText interval) → a ≡ b
-interval-line-unique interval a b = both
+pub named-line-unique : (name : Name) (number : ℕ) (a b : Line) → a ≡ lineOf (namedText name number) → b ≡ lineOf (namedText name number) → a ≡ b
+named-line-unique name number a b = both
+
+pub saying-line-unique : (saying : Saying) (a b : Line) → a ≡ lineOf (sayingText saying) → b ≡ lineOf (sayingText saying) → a ≡ b
+saying-line-unique saying a b = both
 
 pub task-line-unique : (place : ℕ) (entry : Entry) (a b : Line) → a ≡ lineOf (taskText place entry) → b ≡ lineOf (taskText place entry) → a ≡ b
 task-line-unique place entry a b = both
@@ -17,11 +23,15 @@ task-line-unique place entry a b = both
 pub pass-line-unique : (count : ℕ) (choice : List ℕ) (a b : Line) → a ≡ lineOf (passText count choice) → b ≡ lineOf (passText count choice) → a ≡ b
 pass-line-unique count choice a b = both
 
-pub end-line-unique : (number : ℕ) (a b : Line) → a ≡ lineOf (endText number) → b ≡ lineOf (endText number) → a ≡ b
-end-line-unique number a b = both
+pub core-line-unique : (place core : ℕ) (a b : Line) → a ≡ lineOf (coreText place core) → b ≡ lineOf (coreText place core) → a ≡ b
+core-line-unique place core a b = both
 
-pub refused-line-unique : (refusal : ℕ) (a b : Line) → a ≡ lineOf (refusedText refusal) → b ≡ lineOf (refusedText refusal) → a ≡ b
-refused-line-unique refusal a b = both
+pub change-line-unique : (change : Change) (a b : Line) → a ≡ lineOf (changeText change) → b ≡ lineOf (changeText change) → a ≡ b
+change-line-unique change a b = both
+
+pub refused-at-line-unique : (refusal line column : ℕ) (a b : Line)
+    → a ≡ lineOf (refusedAtText refusal line column) → b ≡ lineOf (refusedAtText refusal line column) → a ≡ b
+refused-at-line-unique refusal line column a b = both
 
 pub put-line-unique : (line : Line) (out : List ℕ) (at a b : ℕ) (left left′ : List ℕ)
     → (a ≡ putEnd line out at) × (left ≡ putLeaves line out at) → (b ≡ putEnd line out at) × (left′ ≡ putLeaves line out at) → (a ≡ b) × (left ≡ left′)

@@ -7,7 +7,7 @@ use Rattle.report.specs.declared.Line.{Line}
 
 -- there is room for so many more bytes
 abbrev pub Room : Line → ℕ → Type 0
-Room line more = line .len + more ≤ 40
+Room line more = line .len + more ≤ 88
 
 -- the line with a text after what it holds
 unfoldable pub put : Line → List ℕ → Line

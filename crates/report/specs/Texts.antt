@@ -9,17 +9,78 @@ use Rattle.analysis.specs.declared.Outcome.the-variants.{OnTime, Late}
 use Rattle.analysis.specs.declared.Slack.{Slack}
 use Rattle.analysis.specs.declared.Slack.the-variants.{Figure, NoFigure}
 use Rattle.analysis.specs.declared.Entry.{Entry}
+use Rattle.mend.specs.declared.Field.{Field}
+use Rattle.mend.specs.declared.Field.the-variants.{Length, Deadline, FaultPriority}
+use Rattle.mend.specs.declared.Change.{Change}
 use Rattle.report.specs.declared.Line.{Line}
-use Rattle.report.specs.Words.{intervalWord, taskWord, lateWord, passWord, endWord, refusedWord, space, newline}
+use Rattle.report.specs.declared.Name.{Name}
+use Rattle.report.specs.declared.Name.the-variants.{Interval, Least, End, Refused, Attempts, Backups, Idle, Released, Finished, Missed, Unfinished, Differs, FitsNone}
+use Rattle.report.specs.declared.Saying.{Saying}
+use Rattle.report.specs.declared.Saying.the-variants.{NoInterval, Accepted, LoadInUse, LoadCandidate}
+use Rattle.report.specs.Words.{
+  intervalWord,
+  leastWord,
+  endWord,
+  refusedWord,
+  attemptsWord,
+  backupsWord,
+  idleWord,
+  releasedWord,
+  finishedWord,
+  missedWord,
+  unfinishedWord,
+  differsWord,
+  fitsNoneWord,
+  noneWord,
+  acceptedWord,
+  inUseWord,
+  candidateWord,
+  taskWord,
+  lateWord,
+  passWord,
+  recordWord,
+  coreWord,
+  lengthWord,
+  deadlineWord,
+  faultPriorityWord,
+  lineWord,
+  columnWord,
+  space,
+  newline,
+}
 use Rattle.report.specs.Decimal.{decimal, signed}
 
--- the text at the start of forty zero bytes, beside its length
+-- the text at the start of eighty-eight zero bytes, beside its length
 unfoldable pub lineOf : List ℕ → Line
-lineOf text = record { bytes = sets (replicate 40 0) 0 text; len = length text }
+lineOf text = record { bytes = sets (replicate 88 0) 0 text; len = length text }
 
--- "the interval"
-abbrev pub intervalText : ℕ → List ℕ
-intervalText interval = intervalWord ++ decimal interval ++ newline
+-- the word of each name: "the interval", "`end` and their number", "`refused ` and the number", "least N", "attempts, backups, idle,
+-- released, finished, missed, unfinished", "differs TICK", "fits none K"
+unfoldable pub wordOf : Name → List ℕ
+wordOf Interval = intervalWord
+wordOf Least = leastWord
+wordOf End = endWord
+wordOf Refused = refusedWord
+wordOf Attempts = attemptsWord
+wordOf Backups = backupsWord
+wordOf Idle = idleWord
+wordOf Released = releasedWord
+wordOf Finished = finishedWord
+wordOf Missed = missedWord
+wordOf Unfinished = unfinishedWord
+wordOf Differs = differsWord
+wordOf FitsNone = fitsNoneWord
+
+-- a number under its name
+unfoldable pub namedText : Name → ℕ → List ℕ
+namedText name number = wordOf name ++ decimal number ++ newline
+
+-- "none", "accepted", "load in use, or load candidate"
+unfoldable pub sayingText : Saying → List ℕ
+sayingText NoInterval = noneWord ++ newline
+sayingText Accepted = acceptedWord ++ newline
+sayingText LoadInUse = inUseWord ++ newline
+sayingText LoadCandidate = candidateWord ++ newline
 
 -- document 02, request 2: "`late` followed by the slack where there is one"
 unfoldable pub lateText : Slack → List ℕ
@@ -43,10 +104,20 @@ entryText choice place = space ++ decimal (getD choice place 0)
 unfoldable pub passText : ℕ → List ℕ → List ℕ
 passText count choice = passWord ++ joinedBelow (entryText choice) (min count 8) ++ newline
 
--- "`end` and their number"
-abbrev pub endText : ℕ → List ℕ
-endText number = endWord ++ decimal number ++ newline
+-- "a line for each record": its place from 1 and its core
+unfoldable pub coreText : ℕ → ℕ → List ℕ
+coreText place core = recordWord ++ decimal (place + 1) ++ coreWord ++ decimal core ++ newline
 
--- "`refused ` and the number"
-abbrev pub refusedText : ℕ → List ℕ
-refusedText refusal = refusedWord ++ decimal refusal ++ newline
+-- what a change is made to: the sheet's length, or a record's deadline or fault priority, with the record's place as the change has it
+unfoldable pub changedText : ℕ → Field → List ℕ
+changedText place Length = lengthWord
+changedText place Deadline = recordWord ++ decimal place ++ deadlineWord
+changedText place FaultPriority = recordWord ++ decimal place ++ faultPriorityWord
+
+-- "a line for each change": its old and its new value
+unfoldable pub changeText : Change → List ℕ
+changeText change = changedText (change .place) (change .field) ++ space ++ decimal (change .old) ++ space ++ decimal (change .new) ++ newline
+
+-- "the line and column of the first thing that is not understood, with a number of its own"
+unfoldable pub refusedAtText : ℕ → ℕ → ℕ → List ℕ
+refusedAtText refusal line column = refusedWord ++ decimal refusal ++ lineWord ++ decimal line ++ columnWord ++ decimal column ++ newline

@@ -1,23 +1,76 @@
 // The program's lines as bytes: one call for each kind of line, which answers any arguments with the whole line and its newline, and one that puts a line into an output.
 ghost use mathlib.Core.Path.{_≡_};
-ghost use Rattle.report.specs.Texts.{lineOf, intervalText, taskText, passText, endText, refusedText};
+ghost use Rattle.report.specs.Texts.{lineOf, namedText, sayingText, taskText, passText, coreText, changeText, refusedAtText};
 ghost use Rattle.report.specs.Pages.{putEnd, putLeaves};
 use analysis::Entry;
+use mend::Change;
 
+mod composing;
 mod page;
-mod text;
 
 // A line: its text at the start of the bytes, and the text's length. The bytes after it are zero.
 pub struct Line {
-    pub bytes: [u8; 40],
+    pub bytes: [u8; 88],
     pub len: usize,
 }
 
-// The fault interval.
-pub fn interval_line(interval: u16) -> Line
-    ensures { λ r. ⌜ r ≡ lineOf (intervalText interval) ⌝ }
+// What the number of a line is: the fault interval or the least one, the number of choices, a refusal, a count of a replay, the tick in
+// which a record differs, the place of the record that fits no core.
+pub enum Name {
+    Interval,
+    Least,
+    End,
+    Refused,
+    Attempts,
+    Backups,
+    Idle,
+    Released,
+    Finished,
+    Missed,
+    Unfinished,
+    Differs,
+    FitsNone,
+}
+
+// An answer that is words only: no interval, a record that is accepted, which sheet to load.
+pub enum Saying {
+    NoInterval,
+    Accepted,
+    LoadInUse,
+    LoadCandidate,
+}
+
+// A number under its name.
+pub fn named_line(name: Name, number: u64) -> Line
+    ensures { λ r. ⌜ r ≡ lineOf (namedText name number) ⌝ }
 {
-    text::numbered(b"interval ", interval as u64)
+    match name {
+        Name::Interval => composing::numbered(b"interval ", number),
+        Name::Least => composing::numbered(b"least ", number),
+        Name::End => composing::numbered(b"end ", number),
+        Name::Refused => composing::numbered(b"refused ", number),
+        Name::Attempts => composing::numbered(b"attempts ", number),
+        Name::Backups => composing::numbered(b"backups ", number),
+        Name::Idle => composing::numbered(b"idle ", number),
+        Name::Released => composing::numbered(b"released ", number),
+        Name::Finished => composing::numbered(b"finished ", number),
+        Name::Missed => composing::numbered(b"missed ", number),
+        Name::Unfinished => composing::numbered(b"unfinished ", number),
+        Name::Differs => composing::numbered(b"differs ", number),
+        Name::FitsNone => composing::numbered(b"fits none ", number),
+    }
+}
+
+// An answer in words.
+pub fn saying_line(saying: Saying) -> Line
+    ensures { λ r. ⌜ r ≡ lineOf (sayingText saying) ⌝ }
+{
+    match saying {
+        Saying::NoInterval => composing::begun(b"none\n"),
+        Saying::Accepted => composing::begun(b"accepted\n"),
+        Saying::LoadInUse => composing::begun(b"load in use\n"),
+        Saying::LoadCandidate => composing::begun(b"load candidate\n"),
+    }
 }
 
 // A task's response, or that it is late and by how much. The place is counted from 0 and printed from 1.
@@ -26,39 +79,55 @@ pub fn task_line(place: u8, entry: Entry) -> Line
 {
     let outcome = entry.outcome;
     let slack = entry.slack;
-    let line = text::begun(b"task ");
-    let line = text::with_number(line, place as u64 + 1);
-    let line = text::with_word(line, b" ");
-    let line = text::with_outcome(line, outcome, slack);
-    text::with_word(line, b"\n")
+    let line = composing::begun(b"task ");
+    let line = composing::with_number(line, place as u64 + 1);
+    let line = composing::with_word(line, b" ");
+    let line = composing::with_outcome(line, outcome, slack);
+    composing::with_word(line, b"\n")
 }
 
 // A choice that passes: as many of its entries as the count says, at most eight.
 pub fn pass_line(count: u8, choice: [u8; 8]) -> Line
     ensures { λ r. ⌜ r ≡ lineOf (passText count choice) ⌝ }
 {
-    let entries = text::entries(count);
-    let mut line = text::begun(b"pass");
+    let entries = composing::entries(count);
+    let mut line = composing::begun(b"pass");
     let mut place: usize = 0;
     while place < entries {
-        line = text::with_entry(line, choice[place]);
+        line = composing::with_entry(line, choice[place]);
         place += 1;
     }
-    text::with_word(line, b"\n")
+    composing::with_word(line, b"\n")
 }
 
-// The number of listed choices.
-pub fn end_line(number: u64) -> Line
-    ensures { λ r. ⌜ r ≡ lineOf (endText number) ⌝ }
+// A record's core. The place is counted from 0 and printed from 1.
+pub fn core_line(place: u8, core: u8) -> Line
+    ensures { λ r. ⌜ r ≡ lineOf (coreText place core) ⌝ }
 {
-    text::numbered(b"end ", number)
+    let line = composing::labelled(b"record ", place as u64 + 1);
+    let line = composing::with_labelled(line, b" core ", core as u64);
+    composing::with_word(line, b"\n")
 }
 
-// A refusal's number.
-pub fn refused_line(refusal: u8) -> Line
-    ensures { λ r. ⌜ r ≡ lineOf (refusedText refusal) ⌝ }
+// A change that mending made: what was changed, its old and its new value.
+pub fn change_line(change: Change) -> Line
+    ensures { λ r. ⌜ r ≡ lineOf (changeText change) ⌝ }
 {
-    text::numbered(b"refused ", refusal as u64)
+    let field = change.field;
+    let line = composing::changed(change.place, field);
+    let line = composing::with_labelled(line, b" ", change.old);
+    let line = composing::with_labelled(line, b" ", change.new);
+    composing::with_word(line, b"\n")
+}
+
+// A refusal's number, and the line and the column of a text at which it stands.
+pub fn refused_at_line(refusal: u8, line: u64, column: u64) -> Line
+    ensures { λ r. ⌜ r ≡ lineOf (refusedAtText refusal line column) ⌝ }
+{
+    let refused = composing::labelled(b"refused ", refusal as u64);
+    let refused = composing::with_labelled(refused, b" line ", line);
+    let refused = composing::with_labelled(refused, b" column ", column);
+    composing::with_word(refused, b"\n")
 }
 
 // Puts a line's text into the output from a place on: where it ends, or the place itself where it has no room, and then nothing is put.

@@ -5,11 +5,11 @@ ghost use lib.Dec.{leb};
 ghost use lib.ListN.{length, take};
 ghost use lib.Seq.{sets};
 
-// How many of forty bytes are a text, for any length beside them.
+// How many of eighty-eight bytes are a text, for any length beside them.
 pub fn text_size(len: usize) -> usize
-    ensures { λ r. ⌜ r ≡ min len 40 ⌝ }
+    ensures { λ r. ⌜ r ≡ min len 88 ⌝ }
 {
-    if len < 40 { len } else { 40 }
+    if len < 88 { len } else { 88 }
 }
 
 // Whether so many bytes from a place on end within a length.
@@ -23,8 +23,8 @@ pub fn fits(size: usize, length: usize, at: usize) -> bool
 }
 
 // Puts the first bytes from a place on.
-pub fn copy(out: &mut [u8], at: usize, bytes: [u8; 40], size: usize)
-    requires { ⌜ (size ≤ 40) × (at + size ≤ length (now out)) ⌝ }
+pub fn copy(out: &mut [u8], at: usize, bytes: [u8; 88], size: usize)
+    requires { ⌜ (size ≤ 88) × (at + size ≤ length (now out)) ⌝ }
     ensures { λ _. ⌜ now (out .exit) ≡ sets (now (out .entry)) at (take size bytes) ⌝ }
 {
     let mut place: usize = 0;

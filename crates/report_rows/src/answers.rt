@@ -2,7 +2,11 @@
 use analysis::Entry;
 use analysis::Outcome;
 use analysis::Slack;
+use mend::Change;
+use mend::Field;
 use report::Line;
+use report::Name;
+use report::Saying;
 
 // What each byte of an output holds before a line is put into it.
 const FILLER: u8 = 0xEE;
@@ -38,9 +42,49 @@ fn say_line(list: &[u8], at: usize, line: Line) -> usize {
     say_text(list, at, rows::first(&bytes, line.len))
 }
 
-// An interval's line.
-pub fn interval(list: &[u8], start: usize, at: usize) -> usize {
-    say_line(list, at, report::interval_line(wide(list, start, 1)))
+// The name of a number.
+fn name(number: u64) -> Name {
+    match number {
+        0 => Name::Interval,
+        1 => Name::Least,
+        2 => Name::End,
+        3 => Name::Refused,
+        4 => Name::Attempts,
+        5 => Name::Backups,
+        6 => Name::Idle,
+        7 => Name::Released,
+        8 => Name::Finished,
+        9 => Name::Missed,
+        10 => Name::Unfinished,
+        11 => Name::Differs,
+        _ => Name::FitsNone,
+    }
+}
+
+// The line of a name, the first figure, and a number.
+pub fn named(list: &[u8], start: usize, at: usize) -> usize {
+    let name = name(rows::figure(list, start, 1));
+    say_line(
+        list,
+        at,
+        report::named_line(name, rows::figure(list, start, 2)),
+    )
+}
+
+// The saying of a number.
+fn saying(number: u64) -> Saying {
+    match number {
+        0 => Saying::NoInterval,
+        1 => Saying::Accepted,
+        2 => Saying::LoadInUse,
+        _ => Saying::LoadCandidate,
+    }
+}
+
+// The line of a saying.
+pub fn said(list: &[u8], start: usize, at: usize) -> usize {
+    let saying = saying(rows::figure(list, start, 1));
+    say_line(list, at, report::saying_line(saying))
 }
 
 // The line of a task with an outcome and a slack, its place the first figure.
@@ -90,14 +134,44 @@ pub fn pass(list: &[u8], start: usize, at: usize) -> usize {
     say_line(list, at, report::pass_line(short(list, start, 1), choice))
 }
 
-// The line of a number of choices.
-pub fn end(list: &[u8], start: usize, at: usize) -> usize {
-    say_line(list, at, report::end_line(rows::figure(list, start, 1)))
+// The line of a place and a core.
+pub fn core(list: &[u8], start: usize, at: usize) -> usize {
+    say_line(
+        list,
+        at,
+        report::core_line(short(list, start, 1), short(list, start, 2)),
+    )
 }
 
-// A refusal's line.
-pub fn refused(list: &[u8], start: usize, at: usize) -> usize {
-    say_line(list, at, report::refused_line(short(list, start, 1)))
+// The field of a number.
+fn field(number: u64) -> Field {
+    match number {
+        0 => Field::Length,
+        1 => Field::Deadline,
+        _ => Field::FaultPriority,
+    }
+}
+
+// The line of a change: the place, the field, the old and the new value.
+pub fn change(list: &[u8], start: usize, at: usize) -> usize {
+    let change = Change {
+        place: short(list, start, 1),
+        field: field(rows::figure(list, start, 2)),
+        old: rows::figure(list, start, 3),
+        new: rows::figure(list, start, 4),
+    };
+    say_line(list, at, report::change_line(change))
+}
+
+// The line of a refusal with a line and a column.
+pub fn refused_at(list: &[u8], start: usize, at: usize) -> usize {
+    let line = rows::figure(list, start, 2);
+    let column = rows::figure(list, start, 3);
+    say_line(
+        list,
+        at,
+        report::refused_at_line(short(list, start, 1), line, column),
+    )
 }
 
 // Puts a line at a place of the first bytes of an output.
@@ -112,7 +186,7 @@ fn put_into(line: Line, output: &mut [u8], length: usize, place: usize) -> usize
 // The line of so many choices put at a place of the first so many bytes of twelve: where it ends, and all twelve bytes after that.
 pub fn put(list: &[u8], start: usize, at: usize) -> usize {
     let mut output = [FILLER; 12];
-    let line = report::end_line(rows::figure(list, start, 1));
+    let line = report::named_line(Name::End, rows::figure(list, start, 1));
     let place = rows::figure(list, start, 2) as usize;
     let length = rows::figure(list, start, 3) as usize;
     let ended = put_into(line, &mut output, length, place);

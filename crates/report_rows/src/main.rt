@@ -28,13 +28,15 @@ fn run(list: &[u8]) -> Tally {
 fn row(tally: Tally, list: &[u8], start: usize) -> Tally {
     let at = rows::begin(list, start);
     let end = match rows::byte(list, start) {
-        b'i' => answers::interval(list, start, at),
+        b'n' => answers::named(list, start, at),
+        b'w' => answers::said(list, start, at),
         b't' => answers::on_time(list, start, at),
         b'l' => answers::late(list, start, at),
         b's' => answers::late_by(list, start, at),
         b'p' => answers::pass(list, start, at),
-        b'e' => answers::end(list, start, at),
-        b'r' => answers::refused(list, start, at),
+        b'c' => answers::core(list, start, at),
+        b'm' => answers::change(list, start, at),
+        b'a' => answers::refused_at(list, start, at),
         b'u' => answers::put(list, start, at),
         _ => rows::MISSED,
     };

@@ -187,7 +187,7 @@ module _ (t : Table) (wide : Wide t) (good : GoodTable t) where
   table-edition : Edition (tableEdition t)
   table-edition = edition-of (tableEdition t) (edition-low (t .round) (t .share))
 
-  share-small : t .share < 65536
+  pub share-small : t .share < 65536
   share-small = go (tableEdition t) table-edition refl
     where
       go : (e : ℕ) → Edition e → tableEdition t ≡ e → t .share < 65536
@@ -248,7 +248,7 @@ module _ (t : Table) (wide : Wide t) (good : GoodTable t) where
   unfolding shareOf
   share-read = later-read 4 ∙ later-fields .1
 
-  sized-at : (place : ℕ) → place < t .count → Sized (recordAt (t .records) place)
+  pub sized-at : (place : ℕ) → place < t .count → Sized (recordAt (t .records) place)
   sized-at place below =
       let task = good-at (t .count) (recordAt (t .records)) (good .records) place below in
       let long = wide .period place in

@@ -39,18 +39,18 @@ returns : tie.Need-returns
 returns c =
     let sized = c .before .before .before .before .before .before in
     let given = sized .before .before .before .args in
-    let long : length (given .line .bytes) ≡ 40 = search needs in
+    let long : length (given .line .bytes) ≡ 88 = search needs in
     let room : leb (given .at + sized .text-size .result) (length (given .out .now)) ≡ true = cc in
-    let put = put-fits (given .line) 40 _ long (sized .text-size .ensures) (given .out .now) (given .at) room in
+    let put = put-fits (given .line) 88 _ long (sized .text-size .ensures) (given .out .now) (given .at) room in
     (put .0, c .before .before .copy .ensures ∙ put .1)
 
 returns-2 : tie.Need-returns-2
 returns-2 c =
     let sized = c .before .before in
     let given = sized .before .before .before .args in
-    let long : length (given .line .bytes) ≡ 40 = search needs in
+    let long : length (given .line .bytes) ≡ 88 = search needs in
     let short : leb (given .at + sized .text-size .result) (length (given .out .now)) ≡ false = cc in
-    put-nothing (given .line) 40 _ long (sized .text-size .ensures) (given .out .now) (given .at) short
+    put-nothing (given .line) 88 _ long (sized .text-size .ensures) (given .out .now) (given .at) short
 
 pub put-line-spec : {M : Type 1} → statement M
 put-line-spec =

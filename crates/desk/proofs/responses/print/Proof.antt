@@ -15,8 +15,11 @@ abbrev μ-loop : tie.MeasureT-loop
 buffer-requires : tie.Need-buffer-requires Inv-loop μ-loop
 buffer-requires c κs = search needs
 
-interval-line-requires : tie.Need-interval-line-requires Inv-loop μ-loop
-interval-line-requires c κs = search needs
+cast-named-line : tie.Need-cast-named-line Inv-loop μ-loop
+cast-named-line c = search needs
+
+named-line-requires : tie.Need-named-line-requires Inv-loop μ-loop
+named-line-requires c κs = search needs
 
 slice-aggregate-put-line : tie.Need-slice-aggregate-put-line Inv-loop μ-loop
 slice-aggregate-put-line c = search needs
@@ -70,7 +73,8 @@ print-spec =
     Inv-loop
     μ-loop
     buffer-requires
-    interval-line-requires
+    cast-named-line
+    named-line-requires
     slice-aggregate-put-line
     put-line-requires
     loop-holds

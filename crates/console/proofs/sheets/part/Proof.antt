@@ -1,0 +1,16 @@
+-- `console::sheets::part` meets its contract: so many bytes lie within them. Assumes nothing.
+use mathlib.Core.Path.{sym}
+use native.Mathlib.Omega.{arith}
+use lib.Seq.{length-take-le}
+use borrow.Author.Needs.{needs}
+use Rattle.console.proofs.sheets.part.Statement.{statement}
+use Rattle.console.proofs.sheets.part.Tie as tie
+
+returns : tie.Need-returns
+returns c = (omega arith, sym (length-take-le _ _ (omega arith)))
+
+returns-2 : tie.Need-returns-2
+returns-2 c = (search needs, sym (length-take-le _ _ (search needs)))
+
+pub part-spec : {M : Type 1} → statement M
+part-spec = tie.close (tie.spec returns returns-2)

@@ -1,0 +1,130 @@
+// A refusal in words, on standard error.
+use libc::STDERR_FILENO;
+use sheet::Record;
+use sheet::Table;
+
+// Writes a part of the line.
+pub fn say(words: &[u8]) {
+    io::write_all(STDERR_FILENO, words);
+}
+
+// Writes the sentence of a sheet's rule.
+fn say_rule(refusal: u8) {
+    match refusal {
+        1 => say(b"the sheet has fewer than 3 bytes, or fewer than 7 in the edition with a share"),
+        2 => say(b"the task count, the first four bits, is 0 or above 8"),
+        3 => say(b"the reserved bits, the second four, are above 1"),
+        4 => say(
+            b"the length is not 3 bytes, or 7 in the edition with a share, and 9 for each task",
+        ),
+        5 => say(b"the fault interval E is 0"),
+        6 => say(b"the cost C is 0 or above the deadline D"),
+        7 => say(b"the backup cost B is 0 or above the deadline D"),
+        8 => say(b"the deadline D is above the period T"),
+        9 => say(b"the priority p is outside 1 to the task count, or an earlier record has it"),
+        10 => say(b"the fault priority q is outside 1 to the priority p"),
+        18 => say(b"the share S is 0 or not below the round Q"),
+        _ => say_other_rule(refusal),
+    }
+}
+
+// Writes the sentence of a rule that is not a sheet's own.
+fn say_other_rule(refusal: u8) {
+    match refusal {
+        12 => say(b"a protected place is above the task count"),
+        14 => say(
+            b"a log has two bytes for each tick and a record three, and the last tick is cut",
+        ),
+        15 => say(b"a tick has a release bit above the task count, or one of its seven other bits"),
+        16 => say(b"a release comes sooner than the period T after that task's last"),
+        17 => say(b"a fault comes sooner than the fault interval E after the last"),
+        19 => say(b"the sheet is for a shared processor, and this is answered of a whole one only"),
+        23 => say(b"the number of cores is not 1 to 4"),
+        24 => say(b"the sheet in use and the candidate have different task counts"),
+        _ => say_text_rule(refusal),
+    }
+}
+
+// Writes the sentence of a text's own rule.
+fn say_text_rule(refusal: u8) {
+    match refusal {
+        30 => say(b"this is neither a number nor a word above the columns"),
+        31 => say(b"this number is too large: priorities end at 15, and all others at 65,535"),
+        32 => say(b"this is a number too many: interval 1, round and share 2, a task 6"),
+        33 => say(b"a number is missing here: interval 1, round and share 2, a task 6"),
+        34 => say(b"this is a ninth task, and a sheet has eight at most"),
+        _ => say(b"a rule that this program has no words for"),
+    }
+}
+
+// A record that breaks rule 6, or rule 7 where a sheet was refused with 6.
+fn bad_record(refusal: u8) -> Record {
+    Record {
+        cost: (refusal == 6) as u16,
+        backup: 0,
+        deadline: 1,
+        period: 1,
+        priority: 1,
+        fault_priority: 1,
+    }
+}
+
+// The table with such a record at a place.
+fn spoilt(table: Table, place: usize, refusal: u8) -> Table {
+    let mut records = table.records;
+    if place < 8 {
+        records[place] = bad_record(refusal);
+    }
+    Table {
+        count: table.count,
+        interval: table.interval,
+        round: table.round,
+        share: table.share,
+        records,
+    }
+}
+
+// Whether the table's refusal changes when the record at a place breaks another rule: it does up to the first bad record.
+fn changes(table: Table, place: usize, refusal: u8) -> bool {
+    sheet::judge_table(spoilt(table, place, refusal)) != refusal
+}
+
+// The place, from 1, of the record that broke the rule: how many records from the first on change the refusal.
+fn place(table: Table, refusal: u8) -> u64 {
+    let mut place: u64 = 0;
+    while place < 8 && changes(table, place as usize, refusal) {
+        place += 1;
+    }
+    place
+}
+
+// Prints the sentence of a rule.
+pub fn print(refusal: u8) {
+    say(b"desk: ");
+    say_rule(refusal);
+    say(b"\n");
+}
+
+// Prints the sentence of the rule that a table breaks, after what it is called, with the record's place where the rule is a record's.
+pub fn print_of(called: &[u8], table: Table, refusal: u8) {
+    say(b"desk: ");
+    say(called);
+    if (6 <= refusal) & (refusal <= 10) {
+        say(b"record ");
+        io::print_decimal(STDERR_FILENO, place(table, refusal));
+        say(b": ");
+    }
+    say_rule(refusal);
+    say(b"\n");
+}
+
+// Prints the sentence of the rule that a text breaks at a line and a column.
+pub fn print_at(line: u64, column: u64, refusal: u8) {
+    say(b"desk: line ");
+    io::print_decimal(STDERR_FILENO, line);
+    say(b", column ");
+    io::print_decimal(STDERR_FILENO, column);
+    say(b": ");
+    say_rule(refusal);
+    say(b"\n");
+}

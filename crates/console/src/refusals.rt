@@ -1,0 +1,58 @@
+// Refusals: the number's line on standard output, and the rule in words where that is asked for.
+use crate::explanation;
+use crate::output;
+use crate::sheets;
+use crate::sheets::Given;
+use crate::standing;
+use report::Name;
+use sheet::Table;
+
+// Prints a refusal's line.
+fn line(refusal: u8) -> u8 {
+    output::line(
+        report::named_line(Name::Refused, refusal as u64),
+        standing::TROUBLE,
+    )
+}
+
+// Prints a refusal that is no record's.
+pub fn print(refusal: u8, is_explained: bool) -> u8 {
+    let standing = line(refusal);
+    if is_explained {
+        explanation::print(refusal);
+    }
+    standing
+}
+
+// Prints a sheet's refusal.
+pub fn print_of(given: Given, refusal: u8, is_explained: bool) -> u8 {
+    print_called(b"", given, refusal, is_explained)
+}
+
+// Prints the refusal of a table.
+pub fn print_of_table(table: Table, refusal: u8, is_explained: bool) -> u8 {
+    let standing = line(refusal);
+    if is_explained {
+        explanation::print_of(b"", table, refusal);
+    }
+    standing
+}
+
+// Prints the refusal of a text at a line and a column.
+pub fn print_at(refusal: u8, line: u64, column: u64, is_explained: bool) -> u8 {
+    let refused = report::refused_at_line(refusal, line, column);
+    let standing = output::line(refused, standing::TROUBLE);
+    if is_explained {
+        explanation::print_at(line, column, refusal);
+    }
+    standing
+}
+
+// Prints the refusal of one of two sheets.
+pub fn print_called(called: &[u8], given: Given, refusal: u8, is_explained: bool) -> u8 {
+    let standing = line(refusal);
+    if is_explained {
+        explanation::print_of(called, sheets::unjudged(given), refusal);
+    }
+    standing
+}

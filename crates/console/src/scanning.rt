@@ -1,0 +1,51 @@
+// A text read in pieces of one buffer, whatever its length.
+use crate::input;
+use text::Scan;
+
+// A text as far as it was read, and whether it was to its end.
+pub struct Scanned {
+    pub scan: Scan,
+    pub is_read: bool,
+}
+
+// Takes every piece of an opened text.
+fn take(opened: i32) -> Scanned {
+    let mut buffer = io::large_buffer();
+    let mut scan = Scan::start();
+    let mut turns = u64::MAX;
+    while 0 < turns {
+        let got = input::read(opened, &mut buffer);
+        if got <= 0 {
+            return Scanned {
+                scan,
+                is_read: got == 0,
+            };
+        }
+        let held = io::count(got, &buffer);
+        scan = scan.take(&buffer[..held]);
+        turns -= 1;
+    }
+    Scanned {
+        scan,
+        is_read: false,
+    }
+}
+
+// Reads the text that an argument names, or says why it could not be read.
+pub fn read(place: usize) -> Scanned {
+    let mut name = io::buffer();
+    let length = input::name(place, &mut name);
+    let opened = input::open(&name[..length]);
+    if opened < 0 {
+        return Scanned {
+            scan: Scan::start(),
+            is_read: false,
+        };
+    }
+    let read = take(opened);
+    if !read.is_read {
+        input::say_why(&name[..length]);
+    }
+    input::close(opened);
+    read
+}

@@ -1,0 +1,101 @@
+// A sheet from an input. 80 bytes decide any input that is longer than a sheet can be, so the rest is read and dropped.
+ghost use Rattle.io.specs.Counts.{Counts};
+use crate::input;
+use crate::input::Filled;
+use sheet::Reading;
+use sheet::Table;
+
+// The first bytes of an input, how many of them it has, and whether it was read to its end.
+pub struct Given {
+    pub bytes: [u8; 80],
+    pub length: usize,
+    pub is_read: bool,
+}
+
+// As many bytes as a length says, or all of them.
+pub fn part(length: usize, bytes: &[u8]) -> usize
+    ensures { λ r. ⌜ Counts r (now (bytes .entry)) ⌝ }
+{
+    if length < bytes.len() {
+        length
+    } else {
+        bytes.len()
+    }
+}
+
+// An input that could not be read.
+fn none() -> Given {
+    Given {
+        bytes: [0u8; 80],
+        length: 0,
+        is_read: false,
+    }
+}
+
+// The same, told on standard error.
+fn failed(name: &[u8]) -> Given {
+    input::say_why(name);
+    none()
+}
+
+// Reads an opened input to its end.
+fn take(opened: i32, name: &[u8]) -> Given {
+    let mut bytes = [0u8; 80];
+    match input::fill(opened, &mut bytes) {
+        Filled::Ended(length) => Given {
+            bytes,
+            length,
+            is_read: true,
+        },
+        Filled::Full => {
+            if input::is_read_to_its_end(opened) {
+                return Given {
+                    bytes,
+                    length: 80,
+                    is_read: true,
+                };
+            }
+            failed(name)
+        }
+        Filled::Failed => failed(name),
+    }
+}
+
+// The sheet that an argument names.
+pub fn read(place: usize) -> Given {
+    let mut name = io::buffer();
+    let length = input::name(place, &mut name);
+    let opened = input::open(&name[..length]);
+    if opened < 0 {
+        return none();
+    }
+    let given = take(opened, &name[..length]);
+    input::close(opened);
+    given
+}
+
+// The sheet's table, or its refusal.
+pub fn reading(given: Given) -> Reading {
+    let bytes = given.bytes;
+    let length = part(given.length, &bytes);
+    sheet::read(&bytes[..length])
+}
+
+// The sheet's table as it stands, whatever rules its records break.
+pub fn unjudged(given: Given) -> Table {
+    let bytes = given.bytes;
+    let length = part(given.length, &bytes);
+    sheet::read_unjudged(&bytes[..length]).table
+}
+
+// Whether two words are both the name of standard input, which can be read once.
+pub fn are_both_standard(first: usize, second: usize) -> bool {
+    is_standard(first) & is_standard(second)
+}
+
+// Whether a word is the name of standard input.
+pub fn is_standard(place: usize) -> bool {
+    let mut name = io::buffer();
+    let length = input::name(place, &mut name);
+    input::is_standard(&name[..length])
+}

@@ -1,0 +1,80 @@
+-- `text::page::put_tasks` meets its contract: before each turn the lines of the tasks below the place are put. Assumes nothing.
+use Prim.Native.Nat.{ℕ, _+_, _-_, _*_, _≤_}
+use mathlib.Core.Path.{_≡_, refl, sym, ap}
+use mathlib.Core.List.{List}
+use native.Mathlib.Omega.{arith}
+use Rattle.sheet.specs.Places.{joinedBelow}
+use Rattle.sheet.specs.Layout.{recordAt}
+use Rattle.sheet.proofs.Turns.{joined-more}
+use Rattle.text.specs.Shown.{columnAt, rowText, taskText}
+use Rattle.text.specs.Putting.{Put}
+use Rattle.text.proofs.Laid.{put-none, put-more, put-as, put-length}
+use borrow.Author.Needs.{needs}
+use Rattle.text.proofs.page.put_tasks.Statement.{statement}
+use Rattle.text.proofs.page.put_tasks.Tie as tie
+
+abbrev Inv-loop : tie.InvT-loop
+Inv-loop out₀ at count records end₀ place₀ out end place = (place ≤ count) × (end ≡ at + 51 * place) × Put out₀ at (joinedBelow (taskText records) place) (51 * place) out
+
+abbrev μ-loop : tie.MeasureT-loop
+μ-loop out₀ at count records end₀ place₀ out end place = count - place
+
+loop-holds : tie.Need-loop-holds Inv-loop μ-loop
+unfolding joinedBelow
+loop-holds c = (omega arith, omega arith, put-none _ _)
+
+mul-task-numbers : tie.Need-mul-task-numbers Inv-loop μ-loop
+mul-task-numbers c = search needs
+
+array-copy-out-task-numbers : tie.Need-array-copy-out-task-numbers Inv-loop μ-loop
+array-copy-out-task-numbers c = search needs
+
+task-numbers-requires : tie.Need-task-numbers-requires Inv-loop μ-loop
+task-numbers-requires c κs = search needs
+
+put-row-requires : tie.Need-put-row-requires Inv-loop μ-loop
+put-row-requires c κs =
+    let turn = c .before .before .before .before in
+    (search needs, omega (arith, put-length (turn .loop .inv .2), turn .loop .inv .1, turn .before .before .pre .1))
+
+add-place : tie.Need-add-place Inv-loop μ-loop
+add-place c = search needs
+
+loop-less : tie.Need-loop-less Inv-loop μ-loop
+loop-less c = search needs
+
+loop-again : tie.Need-loop-again Inv-loop μ-loop
+unfolding columnAt taskText recordAt
+loop-again c =
+    let at = c .before .before .before .before .before .before .before .loop in
+    let put = c .before .before .put-row .ensures in
+    let size : 51 * at .place + 51 ≡ 51 * (at .place + 1) = omega arith in
+    let row = put-as (ap (λ (numbers : List ℕ). rowText numbers 6) (c .before .before .before .task-numbers .ensures)) refl (put .1) in
+    (search needs, omega (arith, put .0, at .inv .1), put-as (sym (joined-more _ (at .place))) size (put-more (at .inv .2) (at .inv .1) row))
+
+same-length : tie.Need-same-length Inv-loop μ-loop
+same-length c = put-length (c .before .loop .inv .2)
+
+returns : tie.Need-returns Inv-loop μ-loop
+returns c =
+    let at = c .before .loop in
+    let given = c .before .before .before .args in
+    let all : at .place ≡ given .count = omega arith in
+    put-as (ap (joinedBelow (taskText (given .t3))) all) (ap (λ (n : ℕ). 51 * n) all) (at .inv .2)
+
+pub put-tasks-spec : {M : Type 1} → statement M
+put-tasks-spec =
+    tie.close
+    (tie.spec
+    Inv-loop
+    μ-loop
+    loop-holds
+    mul-task-numbers
+    array-copy-out-task-numbers
+    task-numbers-requires
+    put-row-requires
+    add-place
+    loop-less
+    loop-again
+    same-length
+    returns)

@@ -1,0 +1,7 @@
+-- What a reader of the crate's promises must believe, in the order of docs/FORMAT.md's section on text sheets; Putting is an inner device that no public promise cites.
+pub mod Kinds
+pub mod Lines
+pub mod Steps
+pub mod Answers
+pub mod Shown
+pub mod Putting
