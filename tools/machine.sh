@@ -1,5 +1,6 @@
 # shellcheck shell=sh
-# How programs for x86-64 are built and run, and how C is compiled for them, on x86-64 and, under the kit's emulator, on Arm.
+# How the program and the library are built and run, and how C is compiled for them. The kit compiles for x86-64; on another machine
+# tools/native compiles the same proved code for the machine itself.
 # Read by the scripts of this repository with '.', from its root.
 
 name=$(basename "$0")
@@ -12,27 +13,35 @@ give_up() {
 
 command -v rt >/dev/null 2>&1 || give_up "the Rattle kit's command rt is not on the PATH; README.md names the kit that this repository needs"
 
-toolchain=$(dirname "$(dirname "$(rt doc)")")/on/$(uname -m)/toolchain
+machine=$(uname -m)
+toolchain=$(dirname "$(dirname "$(rt doc)")")/on/$machine/toolchain
 emulator=$toolchain/bin/qemu-x86_64
 [ -x "$emulator" ] || emulator=''
+
+# rt waits for each so many crates or edits together: with one more than there are processors none is idle for long.
+export RT_JOBS="${RT_JOBS:-$(($(nproc) + 1))}"
 
 # Our version, which the header has.
 our_version() {
     sed -n 's/^#define FQ_VERSION "\(.*\)"$/\1/p' include/fidhaqooban.h
 }
 
-# Runs a C program.
-run_c() {
-    ${emulator:+"$emulator"} "$@"
-}
-
-# Runs a Rattle program with the C library of the kit.
-run_rattle() {
-    (become_rattle "$@")
+# Runs the program.
+run_program() {
+    (become_program "$@")
 }
 
 # The same in place of this shell.
-become_rattle() {
+become_program() {
+    if [ "$way" = native ]; then
+        exec "$program" "$@"
+    else
+        become_kits "$program" "$@"
+    fi
+}
+
+# Becomes a program for x86-64, with the C library of the kit and, on another machine, under its emulator: PROGRAM, WORDS.
+become_kits() {
     exec ${emulator:+"$emulator"} "$toolchain/lib/ld-linux-x86-64.so.2" --library-path "$toolchain/lib" "$@"
 }
 
@@ -60,14 +69,9 @@ for signal in HUP INT QUIT TERM; do
     trap "stop $signal" "$signal"
 done
 
-# Sets c_compiler to a compiler for x86-64, which is installed from Debian's packages where it is missing and root asks.
+# Whether there is a C compiler for this machine, after it was installed from Debian's packages where it was missing and root asks.
 find_c_compiler() {
-    case $(uname -m) in
-    x86_64) c_compiler=gcc c_packages='gcc libc6-dev' ;;
-    *) c_compiler=x86_64-linux-gnu-gcc c_packages='gcc-x86-64-linux-gnu libc6-dev-amd64-cross' ;;
-    esac
-    # shellcheck disable=SC2086
-    find_command "$c_compiler" $c_packages
+    find_command gcc gcc libc6-dev
 }
 
 # Whether there is a command, after its packages were installed where it was missing and root asks: COMMAND, PACKAGES.
@@ -89,7 +93,7 @@ install_packages() {
 compile_c() {
     c_output=$1
     shift
-    "$c_compiler" -std=c11 -Wall -Wextra -Werror -O2 -static -Iinclude -o "$c_output" "$@" target/staticlib/libfidhaqooban.a
+    gcc -std=c11 -Wall -Wextra -Werror -O2 -static -Iinclude -o "$c_output" "$@" "$library"
 }
 
 # Whether a file was built by this kit from the crates as they stand: only a build that went through leaves its mark.
@@ -100,7 +104,7 @@ is_built() {
 # Proves and builds what is not built yet: FILE, then the command that makes it. One build goes on at a time, under a lock
 # that is let go when its holder ends.
 build() {
-    built=$1
+    built=${1#"$PWD"/}
     shift
     mark=target/$(basename "$built").built
     is_built "$built" && return 0
@@ -128,10 +132,22 @@ make_built() {
     mv target/building "$mark"
 }
 
-build_program() {
-    build target/bin/desk rt check desk
-}
-
-build_library() {
-    build target/staticlib/libfidhaqooban.a rt staticlib fidhaqooban
-}
+# What is built, and the way in which it is run: on x86-64 as the kit builds it; elsewhere natively, as tools/native makes it of the kit's
+# code, or, where no C compiler can be had to link that, the kit's program under its emulator.
+way=native
+if [ "$machine" = x86_64 ]; then
+    way=kit
+elif ! find_c_compiler; then
+    way=emulated
+fi
+if [ "$way" = native ]; then
+    program=$PWD/target/native/desk
+    library=target/native/libfidhaqooban.a
+    build_program() { build "$program" tools/native desk; }
+    build_library() { build "$library" tools/native fidhaqooban; }
+else
+    program=$PWD/target/bin/desk
+    library=target/staticlib/libfidhaqooban.a
+    build_program() { build "$program" rt check desk; }
+    build_library() { build "$library" rt staticlib fidhaqooban; }
+fi

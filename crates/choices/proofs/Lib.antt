@@ -11,7 +11,6 @@ pub mod Ordered
 pub mod Advancing
 pub mod Listed
 pub mod LowestTask
-pub mod Rows
 pub mod Unique
 pub mod Demands
 pub mod Refused

@@ -1,0 +1,78 @@
+/*
+ * The C functions that the kit's library os is over, for machines other than x86-64, for which the kit has them compiled. Their contracts
+ * are the kit's (its libs/os/src/c.rt); a slice comes as a pointer and a length.
+ */
+#define _GNU_SOURCE
+#include <errno.h>
+#include <fcntl.h>
+#include <stddef.h>
+#include <stdint.h>
+#include <sys/types.h>
+
+enum { NO_SUCH_ARGUMENT = -1, DOES_NOT_FIT = -2, EVERY_FILE = O_NOCTTY | O_CLOEXEC };
+
+static int count;
+static char **words;
+
+/* Keeps the program's arguments before it begins. */
+__attribute__((constructor)) static void keep(int given_count, char **given_words)
+{
+    count = given_count;
+    words = given_words;
+}
+
+size_t rattle_arg_count(void)
+{
+    return (size_t)count;
+}
+
+/* Copies an argument: its length, or that there is none, or that it does not fit, and then the buffer is full. */
+ssize_t rattle_arg(size_t place, uint8_t *buffer, size_t room)
+{
+    if (place >= (size_t)count || words[place] == NULL) {
+        return NO_SUCH_ARGUMENT;
+    }
+    size_t length = 0;
+    for (; words[place][length] != '\0'; length++) {
+        if (length == room) {
+            return DOES_NOT_FIT;
+        }
+        buffer[length] = (uint8_t)words[place][length];
+    }
+    return (ssize_t)length;
+}
+
+int32_t rattle_errno(void)
+{
+    return errno;
+}
+
+void rattle_set_errno(int32_t error)
+{
+    errno = error;
+}
+
+int32_t rattle_open_to_read(const char *path)
+{
+    return open(path, O_RDONLY | EVERY_FILE);
+}
+
+int32_t rattle_open_new(const char *path, uint32_t mode)
+{
+    return open(path, O_WRONLY | O_CREAT | O_EXCL | EVERY_FILE, mode);
+}
+
+int32_t rattle_open_to_overwrite(const char *path, uint32_t mode)
+{
+    return open(path, O_WRONLY | O_CREAT | O_TRUNC | EVERY_FILE, mode);
+}
+
+int32_t rattle_open_to_append(const char *path)
+{
+    return open(path, O_WRONLY | O_APPEND | EVERY_FILE);
+}
+
+int32_t rattle_open_to_update(const char *path)
+{
+    return open(path, O_RDWR | EVERY_FILE);
+}
