@@ -3,7 +3,7 @@
 #include "climbs.h"
 
 #define LEVELS 9
-#define FEW 8
+#define FEW 2
 #define FEW_RECORDS 4
 
 /* For each priority, one more than the largest backup that its task bears: as M at 0, where the rule has one, as N at each fault priority. */

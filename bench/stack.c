@@ -22,6 +22,7 @@ static const uint8_t record_bytes[] = {0, 0, 0, 255, 128, 8};
 static uint64_t counts[FQ_COUNTS];
 static uint64_t changes[FQ_CHANGES_NUMBERS];
 static int32_t figure;
+static int32_t times_numbers[FQ_TIMES_NUMBERS];
 static const uint32_t starts[] = {5, 6, 20, 3};
 static const uint8_t uses[] = {0, 1};
 static const uint8_t resources[FQ_RESOURCES_BYTES] = {255, 255, 255, 255, 255, 255, 255, 255, 0, 1, 1, 1, 1, 1, 1, 1};
@@ -39,6 +40,7 @@ static void record(void) { fq_record(sheet, length, 0); }
 static void response(void) { fq_response(sheet, length, 0); }
 static void slack(void) { fq_slack(sheet, length, 0, &figure, 1); }
 static void verdict(void) { fq_verdict(sheet, length); }
+static void times(void) { fq_times(sheet, length, times_numbers, FQ_TIMES_NUMBERS); }
 static void least_interval(void) { fq_least_interval(sheet, length); }
 static void next(void) { fq_next(sheet, length, 0); }
 static void list(void) { fq_list(sheet, length, output, sizeof output); }
@@ -78,7 +80,7 @@ int main(void)
         void (*call)(void);
     } calls[] = {
         {"fq_judge", judge}, {"fq_write", write}, {"fq_write_shared", write_shared}, {"fq_rewrite", rewrite}, {"fq_record", record},
-        {"fq_response", response}, {"fq_slack", slack}, {"fq_verdict", verdict},
+        {"fq_response", response}, {"fq_slack", slack}, {"fq_verdict", verdict}, {"fq_times", times},
         {"fq_least_interval", least_interval}, {"fq_next", next}, {"fq_list", list}, {"fq_list, no room", short_list},
         {"fq_assured_response", assured_response}, {"fq_assured_next", assured_next}, {"fq_assured_list", assured_list},
         {"fq_assured_list, no room", short_assured_list}, {"fq_replay", replay}, {"fq_check", check}, {"fq_grant", grant}, {"fq_mend", mend},

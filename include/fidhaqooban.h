@@ -15,11 +15,13 @@
  * are tried (enum fq_refusal); where the answer is an int64_t, that number with a minus sign. A refused call
  * changes no byte of `out`; one that is not changes the bytes that it writes and none after them.
  *
- * Memory and time: no heap, no state, no call of anything outside the library; FQ_STACK_BYTES bounds the stack.
- * The x86-64 code uses the SSE registers, so whoever calls it where these are not saved (a kernel, an
- * interrupt handler) saves them first. fq_judge, fq_write, fq_rewrite, fq_record and fq_grant take about a
- * microsecond, fq_mend a few; fq_response, fq_slack, fq_verdict, fq_assured_response, fq_release, and fq_cores
- * with up to 32 verdicts, microseconds to milliseconds; fq_least_interval, fq_next, fq_list, fq_assured_next and
+ * Memory and time: no heap and no state. The archive needs memcpy and, on x86-64, memset from outside (tests/symbols.txt) and
+ * calls nothing else. FQ_STACK_BYTES is more than any call was measured to take; no theorem bounds the stack.
+ * The x86-64 code uses the SSE registers and, in some functions, the 128 bytes below the stack pointer (the red zone), so
+ * whoever calls it where the first are not saved, or where an interrupt may write the second (a kernel, an interrupt
+ * handler), saves the first and switches to a stack of its own. fq_judge, fq_write, fq_rewrite, fq_record and fq_grant take about a
+ * microsecond, fq_mend a few; fq_response, fq_slack, fq_verdict, fq_times, fq_assured_response, fq_release,
+ * and fq_cores with up to 32 verdicts, microseconds to milliseconds; fq_least_interval, fq_next, fq_list, fq_assured_next and
  * fq_assured_list microseconds to some tens of milliseconds, for all 40320 choices of eight tasks too
  * (docs/PERFORMANCE.md has the slowest sheets).
  * Where the lowest task, of priority 1, is late, no choice passes and none is assured, and the next choices and the
@@ -38,7 +40,7 @@ extern "C" {
 #endif
 
 /* The version of this header and library; `./desk --version` prints the same. */
-#define FQ_VERSION "1.16.0"
+#define FQ_VERSION "1.17.0"
 
 /*
  * What a refused call gives, in the order in which the rules are tried: the number of the first rule broken,
@@ -56,11 +58,11 @@ enum fq_refusal {
     FQ_BAD_DEADLINE = 8,        /* a deadline is above its period */
     FQ_BAD_PRIORITY = 9,        /* a priority is outside 1 to the count, or an earlier record has it */
     FQ_BAD_FAULT_PRIORITY = 10, /* a fault priority is outside 1 to the record's own priority */
+    FQ_SHARED_PROCESSOR = 19,   /* logs are replayed, records checked, choices assured and cores given for the whole processor only */
+    FQ_BAD_CORES = 23,          /* the number of cores is not 1 to 4 */
     FQ_DIFFERENT_COUNTS = 24,   /* the sheet in use and the candidate have different counts */
     FQ_BAD_PLACE = 12,          /* the record place asked for, or a protected place, is not below the count */
     FQ_BAD_CHOICE = 13,         /* the choice to go on after is neither 0 nor allowed */
-    FQ_SHARED_PROCESSOR = 19,   /* logs are replayed, records checked, choices assured and cores given for the whole processor only */
-    FQ_BAD_CORES = 23,          /* the number of cores is not 1 to 4 */
     FQ_ODD_LOG = 14,            /* a log has an odd number of bytes, or a record one that is no multiple of three */
     FQ_STRANGE_BIT = 15,        /* a tick has a release bit above the count, or one of the seven other bits set */
     FQ_EARLY_RELEASE = 16,      /* a release sooner than its period after that task's last */
@@ -72,8 +74,8 @@ enum fq_refusal {
     FQ_SHORT_OUTPUT = 11        /* the lent output is shorter than what is to be written: tried last */
 };
 
-/* More stack than any call needs, in bytes (bench/run measures it). */
-#define FQ_STACK_BYTES 4096
+/* More stack than any call was measured to take, in bytes (bench/run measures it, for the archive of this machine). */
+#define FQ_STACK_BYTES 6144
 
 /* The longest sheet, eight tasks on a shared processor, and the longest list, all 8! choices of such a sheet, in bytes. */
 #define FQ_SHEET_BYTES 79
@@ -109,6 +111,10 @@ enum fq_field {
 /* How many numbers fq_mend writes for each change, and how many there are room for at the most: 17 changes after their number. */
 #define FQ_CHANGE_NUMBERS 4
 #define FQ_CHANGES_NUMBERS 69
+
+/* How many numbers fq_times writes for each record, and for eight. */
+#define FQ_TIME_NUMBERS 3
+#define FQ_TIMES_NUMBERS 24
 
 /* How many numbers fq_write takes for each record: cost, backup, deadline, period, priority, fault priority. */
 #define FQ_RECORD_NUMBERS 6
@@ -169,6 +175,15 @@ int64_t fq_slack(const uint8_t *sheet, size_t len, size_t place, int32_t *out, s
  * lowered fault priorities one can (docs/RUNS.md).
  */
 int64_t fq_verdict(const uint8_t *sheet, size_t len);
+
+/*
+ * Times, slacks and verdict in one call, each time found once. For each record in record order, three numbers: its
+ * response time as fq_response gives it, 0 where the task is late; 1 where its slack has a figure and 0 where not;
+ * the slack as fq_slack gives it, or 0.
+ * Answer: that of fq_verdict, 1 where the sheet passes and 0 where it does not, or minus the refusal (1 to 10 or 18, and
+ * last 11 where out_len is below 3 x count). `out_len` is how many numbers have room.
+ */
+int64_t fq_times(const uint8_t *sheet, size_t len, int32_t *out, size_t out_len);
 
 /*
  * The least fault interval, 1 to 65535, at which the sheet passes with its own fault priorities.
@@ -236,7 +251,10 @@ int64_t fq_replay(const uint8_t *sheet, size_t len, const uint8_t *log, size_t l
 int64_t fq_check(const uint8_t *sheet, size_t len, const uint8_t *record, size_t record_len);
 
 /*
- * Whether a sporadic task may have a resource without making a started job wait. No sheet plays a part.
+ * Whether a sporadic task may have a resource beside started jobs: whether the length that it asks for fits into the free
+ * ticks before the next start that uses the resource, and no other holder's ceiling forbids it. That the resource is free again
+ * by that start is the holder's to see to: it is, where the holder runs in enough of those free ticks (docs/LOCKS.md). No sheet
+ * plays a part.
  *
  * The start table: a control period and `count` jobs (0 to 8), in any order. In every period each job starts at its offset,
  * whatever else goes on, and runs for its length. `starts` has two numbers for each job, its offset and its length; `uses` one

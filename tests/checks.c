@@ -264,6 +264,25 @@ int64_t check_slack(struct comparison *comparison, size_t place, size_t out_len)
     return call.plain;
 }
 
+/* Compares every time and slack and the verdict, in an output with room for so many numbers. */
+int64_t check_every_time(struct comparison *comparison, size_t out_len)
+{
+    int32_t before[TIMES_ROOM], library[TIMES_ROOM], plain[TIMES_ROOM];
+    const uint8_t *sheet = laid(comparison);
+    struct call call = {.function = "fq_times", .argument = out_len};
+    random_bytes(&comparison->generator, (uint8_t *)before, sizeof before);
+    memcpy(library, before, sizeof before);
+    memcpy(plain, before, sizeof before);
+    call.library = fq_times(sheet, comparison->sheet_length, library + 1, out_len);
+    call.plain = plain_times(sheet, comparison->sheet_length, plain + 1, out_len);
+    settle_call(comparison, &call);
+    settle(comparison, &call, "times", memcmp(library, plain, sizeof library) == 0);
+    if (call.plain < 0) {
+        settle(comparison, &call, "output of a refused call", memcmp(library, before, sizeof before) == 0);
+    }
+    return call.plain;
+}
+
 /* Compares the library's answer to a question about the whole sheet with the expected one. */
 static void check_whole(struct comparison *comparison, const char *function, uint64_t argument,
                         int64_t library, int64_t expected)

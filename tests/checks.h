@@ -20,6 +20,7 @@ enum {
     ARENA_ROOM = LENT_ROOM + 2 * MARGIN,
     COUNTS_ROOM = 16,
     SLACKS_ROOM = 4,
+    TIMES_ROOM = FQ_TIMES_NUMBERS + 2,
     MARGINS_ROOM = 4,
     CHANGES_ROOM = FQ_CHANGES_NUMBERS + 4,
     CORES_ROOM = FQ_MOST_TASKS + 8
@@ -74,6 +75,7 @@ int64_t check_rewrite(struct comparison *comparison, size_t out_len);
 int64_t check_record(struct comparison *comparison, size_t place);
 int64_t check_response(struct comparison *comparison, enum rule rule, size_t place);
 int64_t check_slack(struct comparison *comparison, size_t place, size_t out_len);
+int64_t check_every_time(struct comparison *comparison, size_t out_len);
 int64_t check_verdict(struct comparison *comparison);
 int64_t check_least_interval(struct comparison *comparison);
 int64_t check_next(struct comparison *comparison, enum rule rule, uint32_t after);

@@ -8,6 +8,7 @@
 
 enum {
     RECORD_NUMBERS = 6,
+    TIME_NUMBERS = 3,
     LONGEST_INTERVAL = 65535,
     LONGEST_TIME = 65535,
     HIGHEST_WRITTEN_PRIORITY = 255,
@@ -186,6 +187,27 @@ int64_t plain_slack(const uint8_t *sheet, size_t len, size_t place, int32_t *out
     }
     out[0] = (int32_t)((int64_t)table.records[place].deadline - (int64_t)time);
     return 1;
+}
+
+/* The time of each record, whether its slack has a figure and the slack, and whether the sheet passes. */
+int64_t plain_times(const uint8_t *sheet, size_t len, int32_t *out, size_t out_len)
+{
+    struct table table;
+    int64_t refusal = refused(sheet, len, &table);
+    if (refusal == 0 && out_len < TIME_NUMBERS * table.count) {
+        refusal = -OUTPUT_TOO_SHORT;
+    }
+    if (refusal != 0) {
+        return refusal;
+    }
+    for (size_t place = 0; place < table.count; place++) {
+        int32_t *own = &out[TIME_NUMBERS * place];
+        int32_t slack = 0;
+        own[0] = (int32_t)plain_response(sheet, len, place);
+        own[1] = (int32_t)plain_slack(sheet, len, place, &slack, 1);
+        own[2] = slack;
+    }
+    return passes(&table);
 }
 
 /* Whether the sheet passes. */

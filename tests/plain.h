@@ -18,6 +18,7 @@ int64_t plain_rewrite(const uint8_t *sheet, size_t len, uint8_t *out, size_t out
 int64_t plain_record(const uint8_t *sheet, size_t len, size_t place);
 int64_t plain_response(const uint8_t *sheet, size_t len, size_t place);
 int64_t plain_slack(const uint8_t *sheet, size_t len, size_t place, int32_t *out, size_t out_len);
+int64_t plain_times(const uint8_t *sheet, size_t len, int32_t *out, size_t out_len);
 int64_t plain_verdict(const uint8_t *sheet, size_t len);
 int64_t plain_least_interval(const uint8_t *sheet, size_t len);
 int64_t plain_next(const uint8_t *sheet, size_t len, uint32_t after);

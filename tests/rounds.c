@@ -82,6 +82,7 @@ static void check_refused_calls(struct comparison *comparison)
 {
     struct generator *generator = &comparison->generator;
     check_slack(comparison, random_below(generator, MOST_TASKS + 2), random_below(generator, 2));
+    check_every_time(comparison, random_below(generator, FQ_TIMES_NUMBERS + 1));
     check_verdict(comparison);
     check_least_interval(comparison);
     for (enum rule rule = PASSING; rule < RULES; rule++) {
@@ -193,7 +194,7 @@ void codec_round(struct comparison *comparison, struct tally *tally, uint64_t ro
     }
 }
 
-/* Asks for the times and slacks at every place, at two past the last and at two far away, and for the verdict. */
+/* Asks for the times and slacks at every place, at two past the last and at two far away, for the verdict, and for all of them at once, with enough room and with too little. */
 static void check_times(struct comparison *comparison, struct tally *tally, const struct draft *draft)
 {
     for (size_t place = 0; place < draft->tasks + 2; place++) {
@@ -204,6 +205,9 @@ static void check_times(struct comparison *comparison, struct tally *tally, cons
     check_slack(comparison, random_below(&comparison->generator, draft->tasks), 2);
     check_response(comparison, PASSING, SIZE_MAX / 2 + 1);
     check_response(comparison, PASSING, SIZE_MAX);
+    check_every_time(comparison, FQ_TIME_NUMBERS * draft->tasks);
+    check_every_time(comparison, FQ_TIMES_NUMBERS);
+    check_every_time(comparison, random_below(&comparison->generator, FQ_TIME_NUMBERS * draft->tasks));
     if (check_verdict(comparison) == 1) {
         tally->passing++;
     } else {

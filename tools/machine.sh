@@ -98,7 +98,7 @@ compile_c() {
 
 # Whether a file was built by this kit from the crates as they stand: only a build that went through leaves its mark.
 is_built() {
-    [ -e "$1" ] && [ -e "$mark" ] && [ "$(cat "$mark")" = "$(rt version)" ] && [ -z "$(find crates crates.txt -newer "$mark" -print | head -n 1)" ]
+    [ -e "$1" ] && [ -e "$mark" ] && [ "$(cat "$mark")" = "$(rt version)" ] && [ -z "$(find crates.txt crates/*/src crates/*/specs crates/*/proofs -newer "$mark" -print 2>/dev/null | head -n 1)" ]
 }
 
 # Proves and builds what is not built yet: FILE, then the command that makes it. One build goes on at a time, under a lock

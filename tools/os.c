@@ -1,12 +1,14 @@
 /*
  * The C functions that the kit's library os is over, for machines other than x86-64, for which the kit has them compiled. Their contracts
- * are the kit's (its libs/os/src/c.rt); a slice comes as a pointer and a length.
+ * are the kit's (its libs/os/src/c.rt); a slice comes as a pointer and a length. And fstat, since the kit's struct is laid out as that of
+ * x86-64.
  */
 #define _GNU_SOURCE
 #include <errno.h>
 #include <fcntl.h>
 #include <stddef.h>
 #include <stdint.h>
+#include <sys/stat.h>
 #include <sys/types.h>
 
 enum { NO_SUCH_ARGUMENT = -1, DOES_NOT_FIT = -2, EVERY_FILE = O_NOCTTY | O_CLOEXEC };
@@ -75,4 +77,38 @@ int32_t rattle_open_to_append(const char *path)
 int32_t rattle_open_to_update(const char *path)
 {
     return open(path, O_RDWR | EVERY_FILE);
+}
+
+/* The kit's struct, its libs/libc/src/types.rt. */
+struct kits_stat {
+    uint64_t device, inode, links;
+    uint32_t mode, user, group, unused;
+    uint64_t special;
+    int64_t size, block_size, blocks;
+    struct timespec read, written, changed;
+    int64_t reserved[3];
+};
+
+int32_t kits_fstat(int32_t opened, struct kits_stat *filled) __asm__("fstat");
+
+int32_t kits_fstat(int32_t opened, struct kits_stat *filled)
+{
+    struct stat found;
+    if (fstatat(opened, "", &found, AT_EMPTY_PATH) != 0) {
+        return -1;
+    }
+    *filled = (struct kits_stat){.device = found.st_dev,
+                                 .inode = found.st_ino,
+                                 .links = found.st_nlink,
+                                 .mode = found.st_mode,
+                                 .user = found.st_uid,
+                                 .group = found.st_gid,
+                                 .special = found.st_rdev,
+                                 .size = found.st_size,
+                                 .block_size = found.st_blksize,
+                                 .blocks = found.st_blocks,
+                                 .read = found.st_atim,
+                                 .written = found.st_mtim,
+                                 .changed = found.st_ctim};
+    return 0;
 }

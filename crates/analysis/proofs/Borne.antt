@@ -13,10 +13,10 @@ use Rattle.sheet.specs.declared.Record.{Record}
 use Rattle.sheet.specs.declared.Table.{Table}
 use Rattle.sheet.specs.Layout.{recordAt}
 use Rattle.sheet.specs.Places.{someBelow}
-use Rattle.sheet.specs.Rules.{tableRefusal}
+use Rattle.sheet.specs.Rules.{outside, tableRefusal}
 use Rattle.sheet.proofs.Agree.{filled-at, some-agree}
-use Rattle.sheet.proofs.Cases.{good-table, good-at}
-use Rattle.analysis.specs.declared.Bounds.{Bounds}
+use Rattle.sheet.proofs.Cases.{good-table, good-at, passed, within as within-limit}
+use Rattle.sheet.proofs.Turns.{none-of}
 use Rattle.analysis.specs.declared.Ordered.{Ordered}
 use Rattle.analysis.specs.declared.Rule.{Rule}
 use Rattle.analysis.specs.declared.Rule.the-variants.{Published, Low}
@@ -28,7 +28,7 @@ use Rattle.analysis.specs.Search.{leastWithin}
 use Rattle.analysis.specs.Response.{timeElsewhere, timeItself, responseWithin, responseTime, isLate, late, passes}
 use Rattle.analysis.specs.Allowed.{levelsOf, Within}
 use Rattle.analysis.specs.Demand.{rankOf, HeldInOrder}
-use Rattle.analysis.specs.Bounds.{askedElsewhere, askedItself, askedWith, askedLow, askedBy, bears, borne, limitOf, limitAt, backupsOf, foundBounds, ownMissed, boundsOf, largestOf, below, belowLimits, withinAt, withinBounds}
+use Rattle.analysis.specs.Bounds.{askedElsewhere, askedItself, askedWith, askedLow, askedBy, bears, borne, limitOf, limitAt, backupsOf, foundBounds, ownMissed, hopeless, largestOf, below, belowLimits, withinAt, withinBounds, boundsRefusal}
 use Rattle.analysis.proofs.Totalled.{sum-rises, most-agree, most-part}
 use Rattle.analysis.proofs.Gathered.{most-reordered, some-reordered}
 use Rattle.analysis.proofs.Reordered.{bears-held}
@@ -205,6 +205,11 @@ unfolding bears askedBy askedWith askedElsewhere askedItself askedLow
 bears-faultless Published t interval c d i q backup = refl
 bears-faultless Low t interval c d i q backup = refl
 
+-- bounds that are not refused have 1 to 8 records
+pub bounds-few : (refusal count : ℕ) → boundsRefusal refusal count ≡ 0 → count ≤ 8
+unfolding boundsRefusal
+bounds-few refusal count e = within-limit count 8 (passed (outside count 8) 1 0 (none-of refusal (cond (outside count 8) 2 0) e .1) .0) .1
+
 -- the bounds of a good table, and a choice that it has
 module _ (t : Table) (good : tableRefusal t ≡ 0) where
   -- the tasks that the bounds are found for, and those of the choice
@@ -315,15 +320,12 @@ module _ (t : Table) (good : tableRefusal t ≡ 0) where
 
   -- a choice stays within the bounds exactly if each record is within its limits
   pub within-each : (rule : Rule) (choice : List ℕ) (missed : ℕ → Bool) → ((place : ℕ) → place < t .count → not (withinAt rule (foundBounds rule t) choice place) ≡ missed place)
-      → withinBounds rule (boundsOf rule t) choice ≡ not (someBelow missed (t .count))
-  unfolding withinBounds boundsOf foundBounds
-  within-each rule choice missed each =
-      let found : boundsOf rule t ≡ foundBounds rule t = simp (eq-eqb (tableRefusal t) 0 good) in
-      ap (λ (b : Bounds). withinBounds rule b choice) found
-      ∙ ap₂ _&&_ (le-leb (t .count) 8 (good-table t good .count .1)) (ap not (some-agree (t .count) each))
+      → withinBounds rule (foundBounds rule t) choice ≡ not (someBelow missed (t .count))
+  unfolding withinBounds foundBounds
+  within-each rule choice missed each = ap not (some-agree (t .count) each)
 
   -- under the published equations that is exactly if it passes
-  pub within-passes : (choice : List ℕ) → Within t choice → withinBounds Published (boundsOf Published t) choice ≡ passes (tasksOf t (t .interval) choice)
+  pub within-passes : (choice : List ℕ) → Within t choice → withinBounds Published (foundBounds Published t) choice ≡ passes (tasksOf t (t .interval) choice)
   unfolding passes
   within-passes choice allowed = within-each Published choice (late (tasksOf t (t .interval) choice)) (within-late choice allowed)
 
@@ -348,15 +350,15 @@ module _ (t : Table) (good : tableRefusal t ≡ 0) where
         ∙ sym (simp (le-leb q (recordAt (t .records) place .priority) low))
 
   -- where some record misses its own backup no choice passes
-  pub hopeless-fails : (choice : List ℕ) → Within t choice → someBelow (ownMissed plain) (t .count) ≡ true → passes (tasksOf t (t .interval) choice) ≡ false
-  unfolding passes
+  pub hopeless-fails : (choice : List ℕ) → Within t choice → hopeless t ≡ true → passes (tasksOf t (t .interval) choice) ≡ false
+  unfolding passes hopeless
   hopeless-fails choice allowed some =
       let found = some-where (ownMissed plain) (t .count) some in
       ap not (some-found (late (tasksOf t (t .interval) choice)) (found .0) (t .count) (found .1) (own-late choice allowed (found .0) (found .1) (found .2)))
 
   -- the same asked with the table held in order
-  pub missed-there : (choice : List ℕ) (held : Ordered) → HeldInOrder t choice held → someBelow (ownMissed (tasksOf (held .table) (held .table .interval) [])) (t .count) ≡ someBelow (ownMissed plain) (t .count)
-  unfolding ownMissed
+  pub missed-there : (choice : List ℕ) (held : Ordered) → HeldInOrder t choice held → someBelow (ownMissed (tasksOf (held .table) (held .table .interval) [])) (t .count) ≡ hopeless t
+  unfolding hopeless ownMissed
   missed-there choice held order =
       ap (λ (interval : ℕ). someBelow (ownMissed (tasksOf (held .table) interval [])) (t .count)) (order .interval)
       ∙ sym (some-reordered (t .count) (rankOf t) (ranks t good) (ownMissed (tasksOf (held .table) (t .interval) [])))

@@ -16,7 +16,7 @@ use Rattle.sheet.specs.declared.Table.{Table}
 use Rattle.sheet.specs.Places.{orElse, filledBelow}
 use Rattle.sheet.specs.Layout.{recordAt}
 use Rattle.sheet.specs.Rules.{outside, tableRefusal}
-use Rattle.sheet.proofs.Turns.{none-of, length-filled}
+use Rattle.sheet.proofs.Turns.{length-filled}
 use Rattle.sheet.proofs.Agree.{filled-at}
 use Rattle.sheet.proofs.Cases.{within, outside-within, good-table, good-at}
 use Rattle.analysis.specs.Tasks.{faultAt, ownChoice}
@@ -151,13 +151,6 @@ allowed-kept t good choice eight e = allowed-exactly t good choice eight .0 (kep
     kept true z = refl
     kept false z = absurd (suc-ne-zero 12 z)
 
--- a choice that is not refused is one of a good table
-pub choice-good : (t : Table) (choice : List ℕ) → length choice ≡ 8 → choiceRefusal t choice ≡ 0 → (tableRefusal t ≡ 0) × Within t choice
-unfolding choiceRefusal
-choice-good t choice eight e =
-    let both = none-of (tableRefusal t) (cond (allAllowed (levelsOf t) choice) 0 13) e in
-    (both .0, allowed-kept t (both .0) choice eight (both .1))
-
 -- the table's own fault priorities
 module _ (t : Table) where
   -- each stands at its place
@@ -188,11 +181,15 @@ module _ (t : Table) where
         past = own-past;
       }
 
-  -- so that asking for them is refused only where the table is
-  pub own-refusal : choiceRefusal t (ownChoice t) ≡ tableRefusal t
-  unfolding choiceRefusal orElse
-  own-refusal = go (ℕ-discrete (tableRefusal t) 0)
+  -- so that asking for them is refused only for what a table is refused for
+  pub own-last : (refusal : ℕ) → (refusal ≡ 0 → tableRefusal t ≡ 0) → orElse refusal (cond (allAllowed (levelsOf t) (ownChoice t)) 0 13) ≡ refusal
+  unfolding orElse
+  own-last refusal fine = go (ℕ-discrete refusal 0)
     where
-      go : Dec (tableRefusal t ≡ 0) → cond (eqb (tableRefusal t) 0) (cond (allAllowed (levelsOf t) (ownChoice t)) 0 13) (tableRefusal t) ≡ tableRefusal t
-      go (yes good) = simp (eq-eqb (tableRefusal t) 0 good, allowed-exactly t good (ownChoice t) length-own .1 (own-allowed good)) (sym good)
-      go (no broken) = simp (ne-eqb (tableRefusal t) 0 broken)
+      go : Dec (refusal ≡ 0) → cond (eqb refusal 0) (cond (allAllowed (levelsOf t) (ownChoice t)) 0 13) refusal ≡ refusal
+      go (yes none) = simp (eq-eqb refusal 0 none, allowed-exactly t (fine none) (ownChoice t) length-own .1 (own-allowed (fine none))) (sym none)
+      go (no broken) = simp (ne-eqb refusal 0 broken)
+
+  pub own-refusal : choiceRefusal t (ownChoice t) ≡ tableRefusal t
+  unfolding choiceRefusal
+  own-refusal = own-last (tableRefusal t) (λ e. e)

@@ -17,6 +17,7 @@ use Rattle.analysis.specs.Tasks.{Tasks, tasksOf, ownChoice}
 use Rattle.analysis.specs.Equations.{struckElsewhere, struckItself}
 use Rattle.analysis.specs.Search.{leastWithin}
 use Rattle.analysis.specs.Response.{timeElsewhere, timeItself, responseWithin, responseTime, isLate, late, passes}
+use Rattle.analysis.specs.Low.{low, lowWithin, lowTime}
 use Rattle.analysis.specs.Answers.{leastInterval}
 use Rattle.analysis.proofs.Climbing.{Fails, Says, first-says, first-found, first-none, Least, least-says, least-found, least-none}
 use Rattle.analysis.proofs.EachTick.{itself-never}
@@ -92,6 +93,16 @@ module _ (limit : ℕ) (s : Tasks) (i : ℕ) where
       back : Missing → responseWithin limit s i ≡ 0
       back (no-time-elsewhere v) = sym (late-elsewhere limit s i (elsewhere-none .1 v))
       back (no-time-itself v) = later (itself-none .1 v) (ℕ-discrete (timeElsewhere limit s i) 0)
+
+-- the time by "low" is the least that its equation allows up to 65,535, and there is none exactly if no number up to there is enough
+module _ (s : Tasks) (i : ℕ) where
+  pub low-least : (L : ℕ) → 1 ≤ L → (lowTime s i ≡ L) ↔ IsLeast (low s i) 1 65535 L
+  unfolding lowTime lowWithin
+  low-least L long = least-is (low s i) 1 65535 (omega arith) L long
+
+  pub low-none : (lowTime s i ≡ 0) ↔ NoValue (low s i) 1 65535
+  unfolding lowTime lowWithin
+  low-none = none-is (low s i) 1 65535 (omega arith)
 
 -- "A sheet passes if no task is late."
 pub passes-exactly : (s : Tasks) → (passes s ≡ true) ↔ ((i : ℕ) → i < s .count → late s i ≡ false)

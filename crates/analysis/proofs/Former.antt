@@ -3,7 +3,7 @@
 -- call's answer is the pair that they gave. Assumes nothing.
 use Prim.Native.Nat.{ℕ, _≤_, _<_}
 use mathlib.Core.Path.{_≡_, refl, sym, ap, ap₂, _∙_}
-use mathlib.Core.Bool.{Bool, true, false, cond, not}
+use mathlib.Core.Bool.{Bool, false, cond, not}
 use mathlib.Core.List.{List}
 use native.Mathlib.Decide.{ℕ-discrete}
 use native.Mathlib.Omega.{arith}
@@ -21,7 +21,7 @@ use Rattle.analysis.specs.declared.Assessment.{Assessment}
 use Rattle.analysis.specs.declared.Entry.{Entry}
 use Rattle.analysis.specs.Tasks.{Tasks, tasksOf, ownChoice}
 use Rattle.analysis.specs.Response.{responseWithin, responseTime, late, passes}
-use Rattle.analysis.specs.Answers.{entryOf, noEntry, choiceRefusal, assessmentOf, choiceAssessment, ownAssessment}
+use Rattle.analysis.specs.Answers.{entryOf, noEntry, choiceRefusal, assessed, choiceAssessment, ownAssessment}
 use Rattle.analysis.proofs.Limits.{response-cut, late-cut, cut-on-time}
 use Rattle.analysis.proofs.Choice.{own-at, own-refusal}
 use Rattle.analysis.proofs.Below.{filled-agree, entry-same, passes-same}
@@ -91,14 +91,14 @@ module _ (t : Table) where
   own-as-before few k below = own-at t k below few ∙ sym (filled-at (λ place. recordAt (t .records) place .«fault_priority») 8 (replicate 8 0) 0 (omega arith) k (omega arith))
 
   -- document 02, request 5: "The new answer is proved to be the pair that they gave."
-  pub pair-as-before : ownAssessment t true ≡ pairOf (formerTimes t) (formerVerdict t)
-  unfolding ownAssessment choiceAssessment assessmentOf formerTimes formerVerdict
+  pub pair-as-before : ownAssessment t ≡ pairOf (formerTimes t) (formerVerdict t)
+  unfolding ownAssessment choiceAssessment assessed formerTimes formerVerdict
   pair-as-before = go (ℕ-discrete (tableRefusal t) 0)
     where
       together : List Entry → Bool → Assessment
       together l b = record { refusal = tableRefusal t; entries = l; passes = b }
 
-      go : Dec (tableRefusal t ≡ 0) → ownAssessment t true ≡ pairOf (formerTimes t) (formerVerdict t)
+      go : Dec (tableRefusal t ≡ 0) → ownAssessment t ≡ pairOf (formerTimes t) (formerVerdict t)
       go (no broken) = simp (own-refusal t, ne-eqb (tableRefusal t) 0 broken)
       go (yes good) =
           let few = good-table t good .count .1 in
@@ -110,13 +110,7 @@ module _ (t : Table) where
   unfolding formerTimes formerVerdict
   refusals-as-before = refl
 
-  -- the verdict is the same whether the times are asked for or not
-  pub verdict-alone : (withTimes : Bool) → (ownAssessment t withTimes .refusal ≡ formerVerdict t .refusal) × (ownAssessment t withTimes .passes ≡ formerVerdict t .passes)
-  unfolding ownAssessment choiceAssessment assessmentOf formerTimes formerVerdict
-  verdict-alone withTimes = (ap (λ (a : Assessment). a .refusal) pair-as-before, ap (λ (a : Assessment). a .passes) pair-as-before)
-
-  -- and under a choice it is the one that was given there
-  pub choice-as-before : (choice : List ℕ) (withTimes : Bool)
-      → (choiceAssessment t choice withTimes .refusal ≡ formerChoiceVerdict t choice .refusal) × (choiceAssessment t choice withTimes .passes ≡ formerChoiceVerdict t choice .passes)
-  unfolding choiceAssessment assessmentOf formerChoiceVerdict
-  choice-as-before choice withTimes = (refl, refl)
+  -- and under a choice the verdict is the one that was given there
+  pub choice-as-before : (choice : List ℕ) → (choiceAssessment t choice .refusal ≡ formerChoiceVerdict t choice .refusal) × (choiceAssessment t choice .passes ≡ formerChoiceVerdict t choice .passes)
+  unfolding choiceAssessment assessed formerChoiceVerdict
+  choice-as-before choice = (refl, refl)

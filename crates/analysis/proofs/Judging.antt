@@ -1,25 +1,30 @@
--- What is known of a table that is not refused under a rule. Assumes nothing.
-use Prim.Native.Nat.{ℕ, _≤_, _<_}
-use mathlib.Core.Path.{_≡_, refl, sym}
-use mathlib.Core.Bool.{Bool, true, false, cond}
+-- What is known of a table that is not refused under a rule, and what is answered by one. Assumes nothing.
+use Prim.Native.Nat.{ℕ}
+use mathlib.Core.Path.{_≡_, refl, sym, ap, _∙_}
+use mathlib.Core.Bool.{Bool, true, false, cond, not}
 use mathlib.Core.List.{List}
 use native.Mathlib.Nat.{suc-ne-zero}
-use borrow.Author.Tests.{eq-eqb, ne-eqb, le-ltb, lt-ltb}
-use lib.Dec.{ltb}
+use borrow.Author.Tests.{eq-eqb}
 use lib.ListN.{length}
 use Rattle.sheet.specs.declared.Table.{Table}
-use Rattle.sheet.specs.Layout.{recordAt, isWhole}
-use Rattle.sheet.specs.Rules.{tableRefusal}
+use Rattle.sheet.specs.Layout.{isWhole}
+use Rattle.sheet.specs.Places.{someBelow}
+use Rattle.sheet.specs.Rules.{outside, tableRefusal}
+use Rattle.sheet.proofs.Cases.{good-table, outside-within}
 use Rattle.sheet.proofs.Turns.{none-of, first-of, next-of}
+use Rattle.analysis.specs.declared.Bounds.{Bounds}
 use Rattle.analysis.specs.declared.Rule.{Rule}
 use Rattle.analysis.specs.declared.Rule.the-variants.{Published, Low}
 use Rattle.analysis.specs.Allowed.{levelsOf, allAllowed, Within}
-use Rattle.analysis.specs.declared.Outcome.the-variants.{OnTime}
-use Rattle.analysis.specs.Tasks.{tasksOf}
-use Rattle.analysis.specs.Low.{lowTime}
-use Rattle.analysis.specs.Answers.{outcomeOf}
-use Rattle.analysis.specs.Judged.{shareRefusal, ruleRefusal, holds, judgedRefusal, holdsAnswer, lowRefusal, lowAnswer}
-use Rattle.analysis.proofs.Choice.{allowed-kept}
+use Rattle.analysis.specs.Tasks.{Tasks, tasksOf, ownChoice}
+use Rattle.analysis.specs.Response.{isLate, passes}
+use Rattle.analysis.specs.Low.{assured}
+use Rattle.analysis.specs.Answers.{entryOf, timedRefusal, timedAnswer, choiceRefusal, assessed, choiceAssessment}
+use Rattle.analysis.specs.Judged.{shareRefusal, ruleRefusal, holds, judgedRefusal, timeBy, entryBy, choiceAssessmentBy, placeRefusal, timedBy}
+use Rattle.analysis.specs.Bounds.{foundBounds, boundsOf, verdictOf, withinBounds, boundsRefusal, withinAnswer}
+use Rattle.analysis.proofs.Choice.{allowed-kept, own-last}
+use Rattle.analysis.proofs.Borne.{within-passes}
+use Rattle.analysis.proofs.Lowered.{within-assured}
 
 -- its own rules come first
 pub rule-first : (rule : Rule) (t : Table) → (tableRefusal t ≡ 0 → ⊥) → tableRefusal t ≡ ruleRefusal rule t
@@ -55,27 +60,40 @@ judged-good rule t choice eight e =
     let both = none-of (ruleRefusal rule t) (cond (allAllowed (levelsOf t) choice) 0 13) e in
     (both .0, allowed-kept t (rule-good rule t (both .0)) choice eight (both .1))
 
--- `low_time`: refused, past the last record, and given
-module _ (t : Table) (choice : List ℕ) (place : ℕ) where
-  pub low-refused : (judgedRefusal Low t choice ≡ 0 → ⊥) → lowAnswer t choice place ≡ OnTime 0
-  unfolding lowAnswer lowRefusal
-  low-refused broken = simp (first-of (judgedRefusal Low t choice) (cond (ltb place (t .count)) 0 12) broken, ne-eqb (judgedRefusal Low t choice) 0 broken)
+-- the table's own fault priorities are refused exactly as the table is
+pub own-judged : (rule : Rule) (t : Table) → judgedRefusal rule t (ownChoice t) ≡ ruleRefusal rule t
+unfolding judgedRefusal
+own-judged rule t = own-last t (ruleRefusal rule t) (rule-good rule t)
 
-  module _ (allowed : judgedRefusal Low t choice ≡ 0) where
-    pub low-past : t .count ≤ place → lowAnswer t choice place ≡ OnTime 0
-    unfolding lowAnswer lowRefusal
-    low-past over = rw (next-of {a = judgedRefusal Low t choice} (cond (ltb place (t .count)) 0 12) allowed, le-ltb place (t .count) over) refl
+-- a choice holds by a rule exactly if no record is late by its time
+pub holds-each : (rule : Rule) (s : Tasks) → holds rule s ≡ not (someBelow (λ i. isLate (s .at i .deadline) (timeBy rule s i)) (s .count))
+unfolding holds timeBy passes assured
+holds-each Published s = refl
+holds-each Low s = refl
 
-    pub low-given : place < t .count → lowAnswer t choice place ≡ outcomeOf (recordAt (t .records) place .deadline) (lowTime (tasksOf t (t .interval) choice) place)
-    unfolding lowAnswer lowRefusal
-    low-given below = rw (next-of {a = judgedRefusal Low t choice} (cond (ltb place (t .count)) 0 12) allowed, lt-ltb place (t .count) below) refl
+-- where a choice is not refused, the verdict is whether it holds
+pub assessed-holds : (rule : Rule) (t : Table) (choice : List ℕ) → judgedRefusal rule t choice ≡ 0 → choiceAssessmentBy rule t choice .passes ≡ holds rule (tasksOf t (t .interval) choice)
+unfolding choiceAssessmentBy assessed
+assessed-holds rule t choice allowed = simp (eq-eqb (judgedRefusal rule t choice) 0 allowed)
 
--- `holds`: refused, and given
-module _ (rule : Rule) (t : Table) (choice : List ℕ) where
-  pub holds-refused : (judgedRefusal rule t choice ≡ 0 → ⊥) → holdsAnswer rule t choice ≡ false
-  unfolding holdsAnswer
-  holds-refused broken = simp (ne-eqb (judgedRefusal rule t choice) 0 broken)
+-- for the bounds of a table that is not refused, and a choice that it has, staying within them is holding by the rule
+pub bounds-hold : (rule : Rule) (t : Table) → ruleRefusal rule t ≡ 0 → (choice : List ℕ) → Within t choice → withinAnswer rule (boundsOf rule t) choice .yes ≡ holds rule (tasksOf t (t .interval) choice)
+unfolding holds boundsOf withinAnswer verdictOf boundsRefusal foundBounds
+bounds-hold rule t fine choice within =
+    let known = good-table t (rule-good rule t fine) .count in
+    let found : boundsOf rule t ≡ foundBounds rule t = simp (eq-eqb (ruleRefusal rule t) 0 fine) in
+    let few : boundsRefusal 0 (t .count) ≡ 0 = next-of {a = 0} (cond (outside (t .count) 8) 2 0) refl ∙ simp (outside-within (t .count) 8 known) in
+    ap (λ (b : Bounds). withinAnswer rule b choice .yes) found ∙ simp few (stays rule fine)
+  where
+    stays : (r : Rule) → ruleRefusal r t ≡ 0 → withinBounds r (foundBounds r t) choice ≡ holds r (tasksOf t (t .interval) choice)
+    stays Published ok = within-passes t (rule-good Published t ok) choice within
+    stays Low ok = within-assured t (rule-good Low t ok) (rule-whole t ok) choice within
 
-  pub holds-given : judgedRefusal rule t choice ≡ 0 → holdsAnswer rule t choice ≡ holds rule (tasksOf t (t .interval) choice)
-  unfolding holdsAnswer
-  holds-given allowed = simp (eq-eqb (judgedRefusal rule t choice) 0 allowed)
+-- the published equations are one rule
+pub assessed-published : (t : Table) (choice : List ℕ) → choiceAssessmentBy Published t choice ≡ choiceAssessment t choice
+unfolding choiceAssessmentBy choiceAssessment choiceRefusal judgedRefusal ruleRefusal holds entryBy timeBy entryOf
+assessed-published t choice = refl
+
+pub timed-published : (t : Table) (place : ℕ) → timedBy Published t place ≡ timedAnswer t place
+unfolding timedBy timedAnswer placeRefusal timedRefusal ruleRefusal entryBy timeBy entryOf
+timed-published t place = refl

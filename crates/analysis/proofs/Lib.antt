@@ -9,7 +9,6 @@ pub mod Found
 pub mod Verdicts
 pub mod Limits
 pub mod Easier
-pub mod Slacks
 pub mod Below
 pub mod Former
 pub mod Stages
@@ -19,6 +18,7 @@ pub mod Reordered
 pub mod Placing
 pub mod EachTick
 pub mod Demands
+pub mod Slacks
 pub mod Halving
 pub mod Borne
 pub mod Raised

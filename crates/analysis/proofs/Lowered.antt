@@ -12,7 +12,6 @@ use lib.Dec.{eqb, leb, ltb}
 use lib.ListN.{getD, replicate}
 use Rattle.sheet.specs.declared.Table.{Table}
 use Rattle.sheet.specs.Layout.{recordAt, isWhole}
-use Rattle.sheet.specs.Places.{someBelow}
 use Rattle.sheet.specs.Rules.{tableRefusal}
 use Rattle.sheet.proofs.Agree.{filled-at}
 use Rattle.sheet.proofs.Cases.{good-table, good-at}
@@ -27,7 +26,7 @@ use Rattle.analysis.specs.Response.{responseTime, isLate, late}
 use Rattle.analysis.specs.Low.{isOver, isAhead, backupAhead, low, lowWithin, lowTime, unassured, assured}
 use Rattle.analysis.specs.Allowed.{levelsOf, Within}
 use Rattle.analysis.specs.Demand.{rankOf, HeldInOrder}
-use Rattle.analysis.specs.Bounds.{askedItself, askedWith, askedLow, askedBy, bears, backupsOf, foundBounds, ownMissed, boundsOf, largestOf, largestAhead, below, belowLimits, withinAt, withinBounds}
+use Rattle.analysis.specs.Bounds.{askedItself, askedWith, askedLow, askedBy, bears, backupsOf, foundBounds, ownMissed, hopeless, largestOf, largestAhead, below, belowLimits, withinAt, withinBounds}
 use Rattle.analysis.proofs.Rounding.{up-some}
 use Rattle.analysis.proofs.Totalled.{sum-plus, sum-rises, most-agree, most-within, most-part}
 use Rattle.analysis.proofs.Climbing.{least-agree}
@@ -37,7 +36,7 @@ use Rattle.analysis.proofs.Verdicts.{some-found, some-where}
 use Rattle.analysis.proofs.Choice.{level-at, both-true}
 use Rattle.analysis.proofs.Reordered.{asked-low-held}
 use Rattle.analysis.proofs.Placing.{same-tasks}
-use Rattle.analysis.proofs.Borne.{bears-easier, limit-kept, borne-below, within-each, bears-there}
+use Rattle.analysis.proofs.Borne.{bears-easier, limit-kept, borne-below, within-each}
 use Rattle.analysis.proofs.Raised.{ahead-most, low-response}
 
 -- whether a record is among those ahead
@@ -135,15 +134,6 @@ module _ (t : Table) (good : tableRefusal t ≡ 0) (whole : isWhole (t .round) (
 
     -- the same asked with the table held in order
     module _ (held : Ordered) (order : HeldInOrder t choice held) {rank backup : ℕ} (here : rank ≡ rankOf t place) (most : backup ≡ backupAhead chosen place) where
-      pub unassured-there : not (bears Low (tasksOf (held .table) (held .table .interval) []) rank (getD choice place 0) backup) ≡ unassured chosen place
-      unassured-there =
-          ap not
-          (ap (λ (interval : ℕ). bears Low (tasksOf (held .table) interval []) rank (getD choice place 0) backup) (order .interval)
-          ∙ ap₂ (λ (r b : ℕ). bears Low (tasksOf (held .table) (t .interval) []) r (getD choice place 0) b) here most
-          ∙ bears-there t good choice held order Low place (getD choice place 0) below (backupAhead chosen place)
-          ∙ bears-ahead)
-          ∙ twice (unassured chosen place)
-
       pub low-there : leastWithin (askedLow (tasksOf (held .table) (t .interval) []) rank (getD choice place 0) backup) 1 65535 ≡ lowTime chosen place
       unfolding askedLow
       low-there =
@@ -187,13 +177,13 @@ module _ (t : Table) (good : tableRefusal t ≡ 0) (whole : isWhole (t .round) (
         (λ k h same. ranked (t .count) (recordAt (t .records)) (good-table t good .records) .apart k place h below (ap (λ (p : ℕ). t .count - p) same)) 65535)
 
   -- a choice stays within the bounds for "low" exactly if it is assured
-  pub within-assured : withinBounds Low (boundsOf Low t) choice ≡ assured chosen
+  pub within-assured : withinBounds Low (foundBounds Low t) choice ≡ assured chosen
   unfolding assured
   within-assured = within-each t good Low choice (unassured chosen) within-unassured
 
   -- where some record misses its own backup no choice is assured
-  pub hopeless-unassured : someBelow (ownMissed plain) (t .count) ≡ true → assured chosen ≡ false
-  unfolding assured
+  pub hopeless-unassured : hopeless t ≡ true → assured chosen ≡ false
+  unfolding assured hopeless
   hopeless-unassured some =
       let found = some-where (ownMissed plain) (t .count) some in
       ap not (some-found (unassured chosen) (found .0) (t .count) (found .1) (own-unassured (found .0) (found .1) (found .2)))

@@ -50,6 +50,15 @@ ahead-most s i k below why =
     let whole : cond (isAhead s i k) (s .at k .backup) 0 ≡ s .at k .backup = simp (tells-so (ahead-tells s i k) why) in
     omega (arith, part, whole)
 
+-- and N is at most what all of them are: "i itself, the tasks with q above q of i, and the tasks with q equal to q of i and a priority above p of i", and no other task
+pub ahead-least : (s : Tasks) (i bound : ℕ) → ((k : ℕ) → k < s .count → (k ≡ i) ⊎ ((s .fault i < s .fault k) ⊎ ((s .fault k ≡ s .fault i) × (s .at i .priority < s .at k .priority))) → s .at k .backup ≤ bound) → backupAhead s i ≤ bound
+unfolding backupAhead
+ahead-least s i bound each = most-within _ (s .count) bound (λ k below. part k (each k below) (ahead-tells s i k))
+  where
+    part : (k : ℕ) {P : Type 0} → (P → s .at k .backup ≤ bound) → {b : Bool} → Tells P b → cond b (s .at k .backup) 0 ≤ bound
+    part k fits (holds why) = fits why
+    part k fits (fails not-ahead) = omega arith
+
 module _ (s : Tasks) (j : ℕ) (below : j < s .count) (whole : s .round ≡ s .share) (some : 1 ≤ s .interval) (raised : s .fault j ≡ s .at j .priority)
     (under : (k : ℕ) → k < s .count → s .fault k ≤ s .at k .priority) (apart : (k : ℕ) → k < s .count → s .at k .priority ≡ s .at j .priority → k ≡ j) where
   -- a task is ahead exactly if its fault priority is no lower

@@ -10,7 +10,6 @@ use borrow.Author.Tests.{eq-eqb, ne-eqb}
 use lib.IntN.{pos}
 use lib.ListN.{length, getD, replicate, getD-replicate}
 use Rattle.sheet.specs.declared.Table.{Table}
-use Rattle.sheet.specs.Layout.{recordAt}
 use Rattle.sheet.specs.Rules.{tableRefusal}
 use Rattle.sheet.proofs.Tells.{ltb-tells}
 use Rattle.sheet.proofs.Turns.{length-filled, none-of}
@@ -20,13 +19,16 @@ use Rattle.sheet.proofs.Order.{table-in-order}
 use Rattle.sheet.proofs.Refused.{given-unless, passed-if, tests}
 use Rattle.analysis.specs.declared.Entry.{Entry}
 use Rattle.analysis.specs.declared.Outcome.the-variants.{OnTime, Late}
+use Rattle.analysis.specs.declared.Rule.{Rule}
 use Rattle.analysis.specs.declared.Slack.the-variants.{Figure}
 use Rattle.analysis.specs.declared.Interval.the-variants.{Refused, Least, Nothing}
 use Rattle.analysis.specs.Tasks.{Tasks, tasksOf}
 use Rattle.analysis.specs.Response.{responseTime, late, passes}
 use Rattle.analysis.specs.Allowed.{levelsOf, allAllowed}
 use Rattle.analysis.specs.Answers.{outcomeOf, saysLate, slackOf, entryFrom, entryOf, noEntry, ownTasks, timedRefusal, timedAnswer}
-use Rattle.analysis.specs.Answers.{choiceRefusal, untimed, assessmentOf, choiceAssessment, ownAssessment, leastInterval, leastOf, intervalAnswer}
+use Rattle.analysis.specs.Answers.{choiceRefusal, untimed, assessed, choiceAssessment, ownAssessment, leastInterval, leastOf, intervalAnswer}
+use Rattle.analysis.specs.Judged.{ruleRefusal, judgedRefusal, choiceAssessmentBy, placeRefusal, timedBy}
+use Rattle.analysis.specs.Bounds.{noBounds, boundsOf, verdictOf}
 use Rattle.analysis.proofs.Choice.{Allowed, allowed-exactly, filled-past, own-refusal}
 use Rattle.analysis.proofs.Demands.{passes-exactly}
 
@@ -102,30 +104,26 @@ module _ (t : Table) (choice : List ℕ) (eight : length choice ≡ 8) where
 
 -- `assess_choice`
 module _ (t : Table) (choice : List ℕ) where
-  -- refused, it gives the number beside eight such entries and no, whatever is asked for
-  pub assessed-refused : (choiceRefusal t choice ≡ 0 → ⊥) → (withTimes : Bool) → choiceAssessment t choice withTimes ≡ untimed (choiceRefusal t choice) false
-  unfolding choiceAssessment assessmentOf
-  assessed-refused broken withTimes = simp (ne-eqb (choiceRefusal t choice) 0 broken)
+  -- refused, it gives the number beside eight such entries and no
+  pub assessed-refused : (choiceRefusal t choice ≡ 0 → ⊥) → choiceAssessment t choice ≡ untimed (choiceRefusal t choice)
+  unfolding choiceAssessment assessed
+  assessed-refused broken = simp (ne-eqb (choiceRefusal t choice) 0 broken)
 
-  -- else 0 beside whether the sheet passes under the choice; without times, beside eight such entries
+  -- else 0 beside whether the sheet passes under the choice
   module _ (fine : choiceRefusal t choice ≡ 0) where
-    pub assessed-verdict : (withTimes : Bool) → (choiceAssessment t choice withTimes .refusal ≡ 0) × (choiceAssessment t choice withTimes .passes ≡ passes (tasksOf t (t .interval) choice))
-    unfolding choiceAssessment assessmentOf
-    assessed-verdict withTimes = simp (eq-eqb (choiceRefusal t choice) 0 fine) (fine, refl)
-
-    pub assessed-untimed : choiceAssessment t choice false ≡ untimed 0 (passes (tasksOf t (t .interval) choice))
-    unfolding choiceAssessment assessmentOf
-    assessed-untimed = simp fine
+    pub assessed-verdict : (choiceAssessment t choice .refusal ≡ 0) × (choiceAssessment t choice .passes ≡ passes (tasksOf t (t .interval) choice))
+    unfolding choiceAssessment assessed
+    assessed-verdict = simp (eq-eqb (choiceRefusal t choice) 0 fine) (fine, refl)
 
     good : tableRefusal t ≡ 0
     unfolding choiceRefusal
     good = none-of (tableRefusal t) _ fine .0
 
-    -- with times, beside an answer for each record, and such entries past the count
-    pub assessed-times : (length (choiceAssessment t choice true .entries) ≡ 8)
-        × ((place : ℕ) → place < t .count → (other : Entry) → Answers (tasksOf t (t .interval) choice) place (getD (choiceAssessment t choice true .entries) place other))
-        × ((place : ℕ) → t .count ≤ place → place < 8 → (other : Entry) → Blank (getD (choiceAssessment t choice true .entries) place other))
-    unfolding choiceAssessment assessmentOf
+    -- beside an answer for each record, and such entries past the count
+    pub assessed-times : (length (choiceAssessment t choice .entries) ≡ 8)
+        × ((place : ℕ) → place < t .count → (other : Entry) → Answers (tasksOf t (t .interval) choice) place (getD (choiceAssessment t choice .entries) place other))
+        × ((place : ℕ) → t .count ≤ place → place < 8 → (other : Entry) → Blank (getD (choiceAssessment t choice .entries) place other))
+    unfolding choiceAssessment assessed
     assessed-times =
         let s = tasksOf t (t .interval) choice in
         let few = good-table t good .count .1 in
@@ -136,34 +134,53 @@ module _ (t : Table) (choice : List ℕ) where
         )
 
     -- yes stands exactly beside entries of which none says late
-    pub yes-exactly : (other : Entry) → (choiceAssessment t choice true .passes ≡ true) ↔ ((place : ℕ) → place < t .count → saysLate (getD (choiceAssessment t choice true .entries) place other .outcome) ≡ false)
+    pub yes-exactly : (other : Entry) → (choiceAssessment t choice .passes ≡ true) ↔ ((place : ℕ) → place < t .count → saysLate (getD (choiceAssessment t choice .entries) place other .outcome) ≡ false)
     unfolding saysLate
     yes-exactly other = (
-      λ yes place below. says place below ∙ passes-exactly s .0 (sym (assessed-verdict true .1) ∙ yes) place below,
-      λ each. assessed-verdict true .1 ∙ passes-exactly s .1 (λ place below. sym (says place below) ∙ each place below),
+      λ yes place below. says place below ∙ passes-exactly s .0 (sym (assessed-verdict .1) ∙ yes) place below,
+      λ each. assessed-verdict .1 ∙ passes-exactly s .1 (λ place below. sym (says place below) ∙ each place below),
     )
       where
         s : Tasks
         s = tasksOf t (t .interval) choice
 
-        says : (place : ℕ) → place < t .count → saysLate (getD (choiceAssessment t choice true .entries) place other .outcome) ≡ late s place
+        says : (place : ℕ) → place < t .count → saysLate (getD (choiceAssessment t choice .entries) place other .outcome) ≡ late s place
         says place below = go (late s place) refl
           where
-            here : Answers s place (getD (choiceAssessment t choice true .entries) place other)
+            here : Answers s place (getD (choiceAssessment t choice .entries) place other)
             here = assessed-times .1 place below other
 
-            go : (b : Bool) → late s place ≡ b → saysLate (getD (choiceAssessment t choice true .entries) place other .outcome) ≡ b
+            go : (b : Bool) → late s place ≡ b → saysLate (getD (choiceAssessment t choice .entries) place other .outcome) ≡ b
             go true is = ap saysLate (here .is-late is)
             go false is = ap saysLate (here .is-on-time is)
 
--- eight such entries stand in an answer without times
-pub untimed-blank : (refusal : ℕ) (verdict : Bool) (place : ℕ) → place < 8 → (other : Entry) → Blank (getD (untimed refusal verdict .entries) place other)
-untimed-blank refusal verdict place below other = blank _ (getD-replicate 8 place noEntry other below)
+-- eight such entries stand in the answer of a refused call
+pub untimed-blank : (refusal : ℕ) (place : ℕ) → place < 8 → (other : Entry) → Blank (getD (untimed refusal .entries) place other)
+untimed-blank refusal place below other = blank _ (getD-replicate 8 place noEntry other below)
 
 -- `assess`: it is refused exactly as the table is
-pub own-refused : (t : Table) (withTimes : Bool) → ownAssessment t withTimes .refusal ≡ tableRefusal t
-unfolding ownAssessment choiceAssessment assessmentOf
-own-refused t withTimes = own-refusal t
+pub own-refused : (t : Table) → ownAssessment t .refusal ≡ tableRefusal t
+unfolding ownAssessment choiceAssessment assessed
+own-refused t = own-refusal t
+
+-- The calls by a rule, refused: the number beside zeros, or beside no
+module _ (rule : Rule) (t : Table) where
+  pub choice-by-refused : (choice : List ℕ) → (judgedRefusal rule t choice ≡ 0 → ⊥) → choiceAssessmentBy rule t choice ≡ untimed (judgedRefusal rule t choice)
+  unfolding choiceAssessmentBy assessed
+  choice-by-refused choice broken = simp (ne-eqb (judgedRefusal rule t choice) 0 broken)
+
+  pub time-by-refused : (place : ℕ) → (placeRefusal rule t place ≡ 0 → ⊥) → timedBy rule t place ≡ record { refusal = placeRefusal rule t place; entry = noEntry }
+  unfolding timedBy
+  time-by-refused place broken = simp (ne-eqb (placeRefusal rule t place) 0 broken)
+
+  pub bounds-refused : (ruleRefusal rule t ≡ 0 → ⊥) → boundsOf rule t ≡ noBounds (ruleRefusal rule t)
+  unfolding boundsOf
+  bounds-refused broken = simp (ne-eqb (ruleRefusal rule t) 0 broken)
+
+-- and of bounds and of a table that `holds_within` and `is_hopeless` refuse
+pub verdict-refused : (refusal : ℕ) (said : Bool) → (refusal ≡ 0 → ⊥) → verdictOf refusal said ≡ record { refusal = refusal; yes = false }
+unfolding verdictOf
+verdict-refused refusal said broken = simp (ne-eqb refusal 0 broken)
 
 -- `least_interval`
 module _ (t : Table) where

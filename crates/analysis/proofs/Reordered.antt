@@ -18,7 +18,6 @@ use Rattle.analysis.specs.Backups.{others, everyone, backupOf, largestBa
 use Rattle.analysis.specs.Equations.{supplierOf, isBetween, struckElsewhere, struckItself}
 use Rattle.analysis.specs.Search.{leastWithin}
 use Rattle.analysis.specs.Response.{timeElsewhere, timeItself, responseWithin, responseTime, isLate, late, passes}
-use Rattle.analysis.specs.Answers.{entryFrom, entryOf}
 use Rattle.analysis.specs.Bounds.{askedElsewhere, askedItself, askedWith, askedLow, askedBy, bears}
 use Rattle.analysis.proofs.Totalled.{sum-agree, most-agree}
 use Rattle.analysis.proofs.Gathered.{sum-reordered, most-reordered, some-reordered}
@@ -138,18 +137,13 @@ module _ (s held : Tasks) (rank : ℕ → ℕ) (same : SameTasks s held rank) wh
     unfolding responseWithin
     response-held limit = simp (time-elsewhere-held limit, time-itself-held limit)
 
-    -- the entry
-    pub entry-held : entryOf held (rank i) ≡ entryOf s i
-    unfolding entryOf responseTime
-    entry-held = ap₂ entryFrom (ap (λ (r : Record). r .deadline) (same .task i low)) (sym (response-held 65535))
-
     -- and whether it is late
     pub late-held : late held (rank i) ≡ late s i
     unfolding responseTime
     late-held = ap₂ isLate (ap (λ (r : Record). r .deadline) (same .task i low)) (sym (response-held 65535))
 
   -- whether some task is late
-  pub some-late-held : someBelow (late held) (s .count) ≡ someBelow (late s) (s .count)
+  some-late-held : someBelow (late held) (s .count) ≡ someBelow (late s) (s .count)
   some-late-held = sym (some-reordered (s .count) rank (same .numbered) (late held)) ∙ some-agree (s .count) (λ k h. late-held k h)
 
   -- and the verdict

@@ -1,18 +1,20 @@
 -- The slack in the words of document 02, request 2, about an entry. Assumes nothing.
 use Prim.Native.Nat.{ℕ, suc, _-_, _≤_}
-use mathlib.Core.Path.{_≡_, refl, ap}
+use mathlib.Core.Path.{_≡_, refl, sym, ap, _∙_}
 use mathlib.Core.Logic.{_↔_}
 use native.Mathlib.Decide.{ℕ-discrete, decLe}
 use native.Mathlib.Omega.{arith}
 use borrow.Author.Tests.{eq-eqb, ne-eqb, le-ltb, lt-ltb}
-use lib.IntN.{pos, negsuc}
+use lib.IntN.{pos, negsuc, _-ℤ_}
 use Rattle.analysis.specs.declared.Slack.{Slack}
 use Rattle.analysis.specs.declared.Slack.the-variants.{Figure, NoFigure}
 use Rattle.analysis.specs.declared.Outcome.{Outcome}
 use Rattle.analysis.specs.declared.Outcome.the-variants.{OnTime, Late}
-use Rattle.analysis.specs.Response.{isLate}
-use Rattle.analysis.specs.Answers.{outcomeOf, slackOf, entryFrom}
+use Rattle.analysis.specs.Tasks.{Tasks}
+use Rattle.analysis.specs.Response.{responseTime, isLate}
+use Rattle.analysis.specs.Answers.{outcomeOf, slackOf, entryFrom, entryOf}
 use Rattle.sheet.proofs.Difference.{difference-left, difference-missing}
+use Rattle.analysis.proofs.Demands.{Missing, missing-exactly}
 
 -- an outcome and a slack beside it: no time at all, one past the deadline, one within it
 data Is (deadline time : ℕ) : Outcome → Slack → Type 0 where
@@ -28,6 +30,23 @@ entry-is deadline time = go (ℕ-discrete time 0) (decLe time deadline)
     go (yes z) side = rw (eq-eqb time 0 z) none
     go (no z) (yes h) = rw (ne-eqb time 0 z, le-ltb deadline time h, difference-left deadline time h) (within (omega arith) h)
     go (no z) (no h) = rw (ne-eqb time 0 z, lt-ltb deadline time (omega arith), difference-missing deadline time (omega arith)) past
+
+-- there is no figure exactly where there is no time
+pub no-figure-exactly : (deadline time : ℕ) → (entryFrom deadline time .slack ≡ NoFigure) ↔ (time ≡ 0)
+unfolding entryFrom slackOf
+no-figure-exactly deadline time = (λ e. go (ℕ-discrete time 0) e, λ z. simp z)
+  where
+    go : Dec (time ≡ 0) → entryFrom deadline time .slack ≡ NoFigure → time ≡ 0
+    go (yes z) e = z
+    go (no p) e = absurd (let figure : Figure (pos deadline -ℤ pos time) ≡ NoFigure = sym (simp (ne-eqb time 0 p)) ∙ e in let z : _≡_ {A = ℕ} 0 1 = cc in omega arith)
+
+-- "Where no value exists within 65,535 there is no figure", and only there: a value at 65,535 itself has one, and the next number counts no more
+pub figure-none : (s : Tasks) (i : ℕ) → (entryOf s i .slack ≡ NoFigure) ↔ Missing 65535 s i
+unfolding entryOf responseTime
+figure-none s i =
+    let figure = no-figure-exactly (s .at i .deadline) (responseTime s i) in
+    let missing = missing-exactly 65535 s i in
+    (λ e. missing .0 (figure .0 e), λ m. figure .1 (missing .1 m))
 
 -- a slack that "is negative or has no figure"
 abbrev pub NegativeOrNone : Slack → Type 0

@@ -1,56 +1,61 @@
--- Each public call's promise leaves one answer: any two that it admits are equal. Assumes nothing.
+-- Each public call's contract leaves one answer: any two that its own reading admits are equal. Assumes nothing.
 use mathlib.Core.Path.{_≡_}
-use mathlib.Core.Bool.{Bool}
-use mathlib.Core.List.{List}
 use Prim.Native.Nat.{ℕ}
-use Rattle.sheet.specs.declared.Table.{Table}
 use Rattle.sheet.proofs.Unique.{both}
 use Rattle.analysis.specs.declared.Timed.{Timed}
 use Rattle.analysis.specs.declared.Assessment.{Assessment}
 use Rattle.analysis.specs.declared.Interval.{Interval}
 use Rattle.analysis.specs.declared.Bounds.{Bounds}
-use Rattle.analysis.specs.declared.Outcome.{Outcome}
-use Rattle.analysis.specs.declared.Rule.{Rule}
-use Rattle.analysis.specs.Tasks.{ownChoice}
-use Rattle.analysis.specs.Answers.{timedAnswer, choiceRefusal, choiceAssessment, ownAssessment, intervalAnswer}
-use Rattle.analysis.specs.Judged.{ruleRefusal, judgedRefusal, holdsAnswer, lowAnswer}
-use Rattle.analysis.specs.Bounds.{hopeless, boundsOf, withinBounds}
+use Rattle.analysis.specs.declared.Verdict.{Verdict}
+use Rattle.analysis.proofs.judge_rule.Reads as ruled
+use Rattle.analysis.proofs.judge_choice_by.Reads as judged
+use Rattle.analysis.proofs.judge_choice.Reads as chosen
+use Rattle.analysis.proofs.time_by.Reads as timed
+use Rattle.analysis.proofs.response_time.Reads as response
+use Rattle.analysis.proofs.assess_choice_by.Reads as choice-by
+use Rattle.analysis.proofs.assess_by.Reads as assessed-by
+use Rattle.analysis.proofs.assess_choice.Reads as assessed-choice
+use Rattle.analysis.proofs.assess.Reads as assessed
+use Rattle.analysis.proofs.least_interval.Reads as least
+use Rattle.analysis.proofs.is_hopeless.Reads as hopeless
+use Rattle.analysis.proofs.bounds_of.Reads as bounded
+use Rattle.analysis.proofs.holds_within.Reads as within
 
-pub response-time-unique : (t : Table) (place : ℕ) (a b : Timed) → a ≡ timedAnswer t place → b ≡ timedAnswer t place → a ≡ b
-response-time-unique t place a b = both
+pub judge-rule-unique : (args : _) (a b : ℕ) (s : _) → ruled.Learnt tt args a s → ruled.Learnt tt args b s → a ≡ b
+judge-rule-unique args a b s = both
 
-pub judge-choice-unique : (t : Table) (choice : List ℕ) (a b : ℕ) → a ≡ choiceRefusal t choice → b ≡ choiceRefusal t choice → a ≡ b
-judge-choice-unique t choice a b = both
+pub judge-choice-by-unique : (args : _) (a b : ℕ) (s : _) → judged.Learnt tt args a s → judged.Learnt tt args b s → a ≡ b
+judge-choice-by-unique args a b s = both
 
-pub assess-choice-unique : (t : Table) (choice : List ℕ) (withTimes : Bool) (a b : Assessment) → a ≡ choiceAssessment t choice withTimes → b ≡ choiceAssessment t choice withTimes → a ≡ b
-assess-choice-unique t choice withTimes a b = both
+pub judge-choice-unique : (args : _) (a b : ℕ) (s : _) → chosen.Learnt tt args a s → chosen.Learnt tt args b s → a ≡ b
+judge-choice-unique args a b s = both
 
-pub assess-unique : (t : Table) (withTimes : Bool) (a b : Assessment) → a ≡ ownAssessment t withTimes → b ≡ ownAssessment t withTimes → a ≡ b
-assess-unique t withTimes a b = both
+pub time-by-unique : (args : _) (a b : Timed) (s : _) → timed.Learnt tt args a s → timed.Learnt tt args b s → a ≡ b
+time-by-unique args a b s = both
 
-pub least-interval-unique : (t : Table) (a b : Interval) → a ≡ intervalAnswer t → b ≡ intervalAnswer t → a ≡ b
-least-interval-unique t a b = both
+pub response-time-unique : (args : _) (a b : Timed) (s : _) → response.Learnt tt args a s → response.Learnt tt args b s → a ≡ b
+response-time-unique args a b s = both
 
-pub is-hopeless-unique : (t : Table) (a b : Bool) → a ≡ hopeless t → b ≡ hopeless t → a ≡ b
-is-hopeless-unique t a b = both
+pub assess-choice-by-unique : (args : _) (a b : Assessment) (s : _) → choice-by.Learnt tt args a s → choice-by.Learnt tt args b s → a ≡ b
+assess-choice-by-unique args a b s = both
 
-pub bounds-of-unique : (t : Table) (rule : Rule) (a b : Bounds) → a ≡ boundsOf rule t → b ≡ boundsOf rule t → a ≡ b
-bounds-of-unique t rule a b = both
+pub assess-by-unique : (args : _) (a b : Assessment) (s : _) → assessed-by.Learnt tt args a s → assessed-by.Learnt tt args b s → a ≡ b
+assess-by-unique args a b s = both
 
-pub holds-within-unique : (bounds : Bounds) (choice : List ℕ) (rule : Rule) (a b : Bool) → a ≡ withinBounds rule bounds choice → b ≡ withinBounds rule bounds choice → a ≡ b
-holds-within-unique bounds choice rule a b = both
+pub assess-choice-unique : (args : _) (a b : Assessment) (s : _) → assessed-choice.Learnt tt args a s → assessed-choice.Learnt tt args b s → a ≡ b
+assess-choice-unique args a b s = both
 
-pub judge-rule-unique : (t : Table) (rule : Rule) (a b : ℕ) → a ≡ ruleRefusal rule t → b ≡ ruleRefusal rule t → a ≡ b
-judge-rule-unique t rule a b = both
+pub assess-unique : (args : _) (a b : Assessment) (s : _) → assessed.Learnt tt args a s → assessed.Learnt tt args b s → a ≡ b
+assess-unique args a b s = both
 
-pub judge-choice-by-unique : (t : Table) (choice : List ℕ) (rule : Rule) (a b : ℕ) → a ≡ judgedRefusal rule t choice → b ≡ judgedRefusal rule t choice → a ≡ b
-judge-choice-by-unique t choice rule a b = both
+pub least-interval-unique : (args : _) (a b : Interval) (s : _) → least.Learnt tt args a s → least.Learnt tt args b s → a ≡ b
+least-interval-unique args a b s = both
 
-pub holds-unique : (t : Table) (choice : List ℕ) (rule : Rule) (a b : Bool) → a ≡ holdsAnswer rule t choice → b ≡ holdsAnswer rule t choice → a ≡ b
-holds-unique t choice rule a b = both
+pub is-hopeless-unique : (args : _) (a b : Verdict) (s : _) → hopeless.Learnt tt args a s → hopeless.Learnt tt args b s → a ≡ b
+is-hopeless-unique args a b s = both
 
-pub low-time-unique : (t : Table) (choice : List ℕ) (place : ℕ) (a b : Outcome) → a ≡ lowAnswer t choice place → b ≡ lowAnswer t choice place → a ≡ b
-low-time-unique t choice place a b = both
+pub bounds-of-unique : (args : _) (a b : Bounds) (s : _) → bounded.Learnt tt args a s → bounded.Learnt tt args b s → a ≡ b
+bounds-of-unique args a b s = both
 
-pub own-choice-unique : (t : Table) (a b : List ℕ) → a ≡ ownChoice t → b ≡ ownChoice t → a ≡ b
-own-choice-unique t a b = both
+pub holds-within-unique : (args : _) (a b : Verdict) (s : _) → within.Learnt tt args a s → within.Learnt tt args b s → a ≡ b
+holds-within-unique args a b s = both

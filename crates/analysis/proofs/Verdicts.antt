@@ -11,9 +11,9 @@ use lib.Dec.{eqb, ltb}
 use Rattle.sheet.specs.Places.{someBelow}
 use Rattle.sheet.proofs.Editions.{neither}
 use Rattle.analysis.specs.Tasks.{Tasks}
-use Rattle.analysis.specs.Response.{timeElsewhere, timeItself, responseWithin, responseTime, isLate, late}
+use Rattle.analysis.specs.Response.{timeElsewhere, timeItself, responseWithin, isLate}
 use Rattle.analysis.specs.declared.Outcome.the-variants.{OnTime, Late}
-use Rattle.analysis.specs.Answers.{outcomeOf, saysLate, entryFrom, entryOf}
+use Rattle.analysis.specs.Answers.{outcomeOf, saysLate, entryFrom}
 
 module _ (limit : ℕ) (s : Tasks) (i : ℕ) where
   pub late-elsewhere : timeElsewhere limit s i ≡ 0 → 0 ≡ responseWithin limit s i
@@ -41,12 +41,12 @@ pub within-on-time : (deadline time : ℕ) → 1 ≤ time → time ≤ deadline 
 unfolding isLate
 within-on-time deadline time some low = simp (ne-eqb time 0 (λ z. omega arith), le-ltb deadline time low)
 
--- an entry says late exactly if its task is
-pub entry-late : (s : Tasks) (i : ℕ) → saysLate (entryOf s i .outcome) ≡ late s i
-unfolding saysLate entryOf entryFrom outcomeOf
-entry-late s i = go (late s i)
+-- an entry says late exactly if its time is
+pub entry-late : (deadline time : ℕ) → saysLate (entryFrom deadline time .outcome) ≡ isLate deadline time
+unfolding saysLate entryFrom outcomeOf
+entry-late deadline time = go (isLate deadline time)
   where
-    go : (is : Bool) → saysLate (cond is Late (OnTime (responseTime s i))) ≡ is
+    go : (is : Bool) → saysLate (cond is Late (OnTime time)) ≡ is
     go true = refl
     go false = refl
 

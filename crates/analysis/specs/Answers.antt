@@ -1,6 +1,6 @@
 -- What each public call answers, refusals included; for an answer that is an enum, this paper's number and values for each case.
 use Prim.Native.Nat.{ℕ}
-use mathlib.Core.Bool.{Bool, true, false, cond, _&&_}
+use mathlib.Core.Bool.{Bool, true, false, cond}
 use mathlib.Core.List.{List}
 use lib.Dec.{eqb, ltb}
 use lib.IntN.{pos, _-ℤ_}
@@ -63,25 +63,25 @@ timedAnswer t place = record { refusal = timedRefusal t place; entry = cond (eqb
 unfoldable pub choiceRefusal : Table → List ℕ → ℕ
 choiceRefusal t choice = orElse (tableRefusal t) (cond (allAllowed (levelsOf t) choice) 0 13)
 
--- an answer without times: the refusal and the verdict, eight such entries between them
-abbrev pub untimed : ℕ → Bool → Assessment
-untimed refusal yes-or-no = record { refusal = refusal; entries = replicate 8 noEntry; passes = yes-or-no }
+-- the answer of a refused call: the number beside eight such entries and no
+abbrev pub untimed : ℕ → Assessment
+untimed refusal = record { refusal = refusal; entries = replicate 8 noEntry; passes = false }
 
--- document 02, request 5: "one call whose answer holds both": the refusal, an entry for each record where the times are asked for, and the verdict; "the verdict of a refused call is no"
-unfoldable pub assessmentOf : ℕ → Tasks → Bool → Assessment
-assessmentOf refusal s withTimes =
+-- document 02, request 5: "one call whose answer holds both": the refusal, an entry for each of n records, and the verdict; "the verdict of a refused call is no"
+unfoldable pub assessed : ℕ → (ℕ → Entry) → ℕ → Bool → Assessment
+assessed refusal entry n verdict =
     record {
       refusal = refusal;
-      entries = cond (eqb refusal 0 && withTimes) (filledBelow (entryOf s) (s .count) (replicate 8 noEntry)) (replicate 8 noEntry);
-      passes = cond (eqb refusal 0) (passes s) false;
+      entries = cond (eqb refusal 0) (filledBelow entry n (replicate 8 noEntry)) (replicate 8 noEntry);
+      passes = cond (eqb refusal 0) verdict false;
     }
 
 -- `assess_choice`: under a choice, which takes the place of the table's own fault priorities
-unfoldable pub choiceAssessment : Table → List ℕ → Bool → Assessment
-choiceAssessment t choice = assessmentOf (choiceRefusal t choice) (tasksOf t (t .interval) choice)
+unfoldable pub choiceAssessment : Table → List ℕ → Assessment
+choiceAssessment t choice = let s = tasksOf t (t .interval) choice in assessed (choiceRefusal t choice) (entryOf s) (t .count) (passes s)
 
 -- `assess`: under the table's own fault priorities
-unfoldable pub ownAssessment : Table → Bool → Assessment
+unfoldable pub ownAssessment : Table → Assessment
 ownAssessment t = choiceAssessment t (ownChoice t)
 
 -- "the smallest E from 1 to 65,535 at which the sheet passes with its own fault priorities"; 0 if there is none

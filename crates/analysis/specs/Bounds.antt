@@ -1,14 +1,15 @@
 -- The largest backup that each record bears, found once for a table, and what it then is for a choice to hold, by either rule. An inner device of the walk and the list: the calls `bounds_of` and `holds_within` promise it, and laws say that it is passing, and being assured.
 use Prim.Native.Nat.{ℕ, _+_, _-_, _*_, _/_, _%_, max}
-use mathlib.Core.Bool.{Bool, cond, not, _&&_, _||_}
+use mathlib.Core.Bool.{Bool, false, cond, not, _&&_, _||_}
 use mathlib.Core.List.{List, []}
 use lib.Dec.{eqb, leb, ltb}
 use lib.ListN.{getD, replicate}
 use Rattle.sheet.specs.declared.Table.{Table}
-use Rattle.sheet.specs.Places.{someBelow, filledBelow}
+use Rattle.sheet.specs.Places.{orElse, someBelow, filledBelow}
 use Rattle.sheet.specs.Layout.{recordAt}
-use Rattle.sheet.specs.Rules.{tableRefusal}
+use Rattle.sheet.specs.Rules.{outside, tableRefusal}
 use Rattle.analysis.specs.declared.Bounds.{Bounds}
+use Rattle.analysis.specs.declared.Verdict.{Verdict}
 use Rattle.analysis.specs.declared.Rule.{Rule}
 use Rattle.analysis.specs.declared.Rule.the-variants.{Published, Low}
 use Rattle.analysis.specs.Rounding.{up}
@@ -19,6 +20,7 @@ use Rattle.analysis.specs.Equations.{supplierOf}
 use Rattle.analysis.specs.Search.{leastWithin}
 use Rattle.analysis.specs.Response.{isLate}
 use Rattle.analysis.specs.Allowed.{levelsOf}
+use Rattle.analysis.specs.Judged.{ruleRefusal}
 
 -- struck elsewhere, with any M: "C of i, plus up(L, T) × C for each record with a priority above p of i, plus up(L, E) × M", and the supplier's term
 unfoldable pub askedElsewhere : Tasks → ℕ → ℕ → ℕ → ℕ
@@ -72,9 +74,9 @@ limitAt rule t place q =
     cond (leb q (recordAt (t .records) place .priority))
     (limitOf (bears rule (tasksOf t (t .interval) []) place q) (λ k. recordAt (t .records) k .backup) (t .count)) 0
 
--- no bounds: those of a refused table
-abbrev pub noBounds : Bounds
-noBounds = record { count = 0; priorities = replicate 8 0; backups = replicate 8 0; limits = replicate 72 0 }
+-- no bounds: those of a refused table, beside its number
+abbrev pub noBounds : ℕ → Bounds
+noBounds refusal = record { refusal = refusal; count = 0; priorities = replicate 8 0; backups = replicate 8 0; limits = replicate 72 0 }
 
 -- the backups of the records in record order, in eight entries, 0 past the count
 unfoldable pub backupsOf : Table → List ℕ
@@ -84,22 +86,32 @@ backupsOf t = filledBelow (λ place. recordAt (t .records) place .backup) (t .co
 unfoldable pub foundBounds : Rule → Table → Bounds
 foundBounds rule t =
     record {
+      refusal = 0;
       count = t .count;
       priorities = levelsOf t;
       backups = backupsOf t;
       limits = filledBelow (λ k. limitAt rule t (k / 9) (k % 9)) (9 * t .count) (replicate 72 0);
     }
 
--- `bounds_of`
+-- `bounds_of`: those of a table that is not refused under the rule
 unfoldable pub boundsOf : Rule → Table → Bounds
-boundsOf rule t = cond (eqb (tableRefusal t) 0) (foundBounds rule t) noBounds
+boundsOf rule t = cond (eqb (ruleRefusal rule t) 0) (foundBounds rule t) (noBounds (ruleRefusal rule t))
 
--- `is_hopeless`: whether some record of a good table does not bear its own backup though it runs at its own priority, and so is late under every choice
+-- yes or no beside a refusal: "the verdict of a refused call is no"
+unfoldable pub verdictOf : ℕ → Bool → Verdict
+verdictOf refusal said = record { refusal = refusal; yes = cond (eqb refusal 0) said false }
+
+-- whether record i does not bear its own backup though it runs at its own priority, and so is late under every choice
 unfoldable pub ownMissed : Tasks → ℕ → Bool
 ownMissed s i = not (bears Published s i (s .at i .priority) (s .at i .backup))
 
+-- whether some record does not
 unfoldable pub hopeless : Table → Bool
-hopeless t = eqb (tableRefusal t) 0 && someBelow (ownMissed (tasksOf t (t .interval) [])) (t .count)
+hopeless t = someBelow (ownMissed (tasksOf t (t .interval) [])) (t .count)
+
+-- `is_hopeless`: whether that is so of a table that is not refused
+unfoldable pub hopelessAnswer : Table → Verdict
+hopelessAnswer t = verdictOf (tableRefusal t) (hopeless t)
 
 -- the largest backup among n records, those meant whose entry in the choice is at or above a level, or 0
 unfoldable pub largestOf : List ℕ → List ℕ → (ℕ → Bool) → ℕ → ℕ → ℕ
@@ -129,6 +141,14 @@ belowLimits rule b choice place =
 unfoldable pub withinAt : Rule → Bounds → List ℕ → ℕ → Bool
 withinAt rule b choice place = leb (getD choice place 0) 8 && belowLimits rule b choice place
 
--- `holds_within`: whether each record is
+-- whether each record is
 unfoldable pub withinBounds : Rule → Bounds → List ℕ → Bool
-withinBounds rule b choice = leb (b .count) 8 && not (someBelow (λ place. not (withinAt rule b choice place)) (b .count))
+withinBounds rule b choice = not (someBelow (λ place. not (withinAt rule b choice place)) (b .count))
+
+-- what bounds are refused for: the number that they carry, then 2, "the count is 0 or above 8"
+unfoldable pub boundsRefusal : ℕ → ℕ → ℕ
+boundsRefusal refusal count = orElse refusal (cond (outside count 8) 2 0)
+
+-- `holds_within`: whether a choice stays within bounds that are not refused
+unfoldable pub withinAnswer : Rule → Bounds → List ℕ → Verdict
+withinAnswer rule b choice = verdictOf (boundsRefusal (b .refusal) (b .count)) (withinBounds rule b choice)

@@ -1,21 +1,22 @@
--- The two rules that a choice of fault priorities can be judged by, and what is refused before: a choice passes by the published equations, and is assured by "low".
+-- The two rules that a choice of fault priorities can be judged by, and what is refused before: a choice passes by the published equations, and is assured by "low". Beside them, what the calls that are given a rule answer.
 use Prim.Native.Nat.{ℕ}
-use mathlib.Core.Bool.{Bool, cond, _&&_}
+use mathlib.Core.Bool.{Bool, cond}
 use mathlib.Core.List.{List}
 use lib.Dec.{eqb, ltb}
 use Rattle.sheet.specs.declared.Table.{Table}
 use Rattle.sheet.specs.Places.{orElse}
-use Rattle.sheet.specs.Layout.{recordAt, isWhole}
+use Rattle.sheet.specs.Layout.{isWhole}
 use Rattle.sheet.specs.Rules.{tableRefusal}
-use Rattle.analysis.specs.declared.Outcome.{Outcome}
-use Rattle.analysis.specs.declared.Outcome.the-variants.{OnTime}
+use Rattle.analysis.specs.declared.Entry.{Entry}
+use Rattle.analysis.specs.declared.Timed.{Timed}
+use Rattle.analysis.specs.declared.Assessment.{Assessment}
 use Rattle.analysis.specs.declared.Rule.{Rule}
 use Rattle.analysis.specs.declared.Rule.the-variants.{Published, Low}
-use Rattle.analysis.specs.Tasks.{Tasks, tasksOf}
-use Rattle.analysis.specs.Response.{passes}
+use Rattle.analysis.specs.Tasks.{Tasks, tasksOf, ownChoice}
+use Rattle.analysis.specs.Response.{responseTime, passes}
 use Rattle.analysis.specs.Low.{lowTime, assured}
 use Rattle.analysis.specs.Allowed.{levelsOf, allAllowed}
-use Rattle.analysis.specs.Answers.{outcomeOf}
+use Rattle.analysis.specs.Answers.{entryFrom, noEntry, ownTasks, assessed}
 
 -- what the rule asks of the tasks under a choice
 unfoldable pub holds : Rule → Tasks → Bool
@@ -36,15 +37,27 @@ ruleRefusal Low t = orElse (tableRefusal t) (shareRefusal Low (t .round) (t .sha
 unfoldable pub judgedRefusal : Rule → Table → List ℕ → ℕ
 judgedRefusal rule t choice = orElse (ruleRefusal rule t) (cond (allAllowed (levelsOf t) choice) 0 13)
 
--- `holds`: whether a choice holds by the rule; where it is refused, no
-unfoldable pub holdsAnswer : Rule → Table → List ℕ → Bool
-holdsAnswer rule t choice = eqb (judgedRefusal rule t choice) 0 && holds rule (tasksOf t (t .interval) choice)
+-- the time of record i by a rule: the response time, or that by "low"
+unfoldable pub timeBy : Rule → Tasks → ℕ → ℕ
+timeBy Published = responseTime
+timeBy Low = lowTime
 
--- the refusal of asking for the assured time of the record at a place: 12 last
-unfoldable pub lowRefusal : Table → List ℕ → ℕ → ℕ
-lowRefusal t choice place = orElse (judgedRefusal Low t choice) (cond (ltb place (t .count)) 0 12)
+-- its entry: the deadline beside that time or late, and the slack
+unfoldable pub entryBy : Rule → Tasks → ℕ → Entry
+entryBy rule s i = entryFrom (s .at i .deadline) (timeBy rule s i)
 
--- `low_time`: the assured time of the record under a choice, or late; where it is refused, 0
-unfoldable pub lowAnswer : Table → List ℕ → ℕ → Outcome
-lowAnswer t choice place =
-    cond (eqb (lowRefusal t choice place) 0) (outcomeOf (recordAt (t .records) place .deadline) (lowTime (tasksOf t (t .interval) choice) place)) (OnTime 0)
+-- `assess_choice_by`: every record's entry by a rule under a choice, and whether it holds by the rule
+unfoldable pub choiceAssessmentBy : Rule → Table → List ℕ → Assessment
+choiceAssessmentBy rule t choice = let s = tasksOf t (t .interval) choice in assessed (judgedRefusal rule t choice) (entryBy rule s) (t .count) (holds rule s)
+
+-- `assess_by`: under the table's own fault priorities
+unfoldable pub ownAssessmentBy : Rule → Table → Assessment
+ownAssessmentBy rule t = choiceAssessmentBy rule t (ownChoice t)
+
+-- the refusal of `time_by`: the rule's, then 12, "the record place asked for is not below the count"
+unfoldable pub placeRefusal : Rule → Table → ℕ → ℕ
+placeRefusal rule t place = orElse (ruleRefusal rule t) (cond (ltb place (t .count)) 0 12)
+
+-- `time_by`: the refusal beside the record's entry by a rule
+unfoldable pub timedBy : Rule → Table → ℕ → Timed
+timedBy rule t place = record { refusal = placeRefusal rule t place; entry = cond (eqb (placeRefusal rule t place) 0) (entryBy rule (ownTasks t) place) noEntry }

@@ -1,19 +1,19 @@
 // How large a backup each record bears, found once for a table by a few searches; and whether a choice stays within that, which takes comparisons only.
 ghost use mathlib.Core.Path.{_≡_};
 ghost use Prim.Native.Nat.{ℕ, _+_, _*_, _/_, _%_, _≤_, _<_, max};
-ghost use mathlib.Core.Bool.{cond, not, _&&_};
+ghost use mathlib.Core.Bool.{cond, _&&_};
 ghost use mathlib.Core.List.{[]};
 ghost use lib.Dec.{leb, ltb};
 ghost use lib.ListN.{getD, replicate};
 ghost use Rattle.sheet.specs.Layout.{recordAt};
-ghost use Rattle.sheet.specs.Places.{someBelow, filledBelow};
+ghost use Rattle.sheet.specs.Places.{filledBelow};
 ghost use Rattle.sheet.specs.Rules.{tableRefusal};
 ghost use Rattle.analysis.specs.Tasks.{tasksOf};
 ghost use Rattle.analysis.specs.Backups.{others, everyone};
 ghost use Rattle.analysis.specs.Demand.{HeldInOrder, Sorted};
 ghost use Rattle.analysis.specs.Allowed.{levelsOf};
 ghost use Rattle.analysis.specs.Search.{leastWithin};
-ghost use Rattle.analysis.specs.Bounds.{askedWith, bears, borne, limitOf, limitAt, noBounds, backupsOf, foundBounds, ownMissed, largestOf, below, withinAt};
+ghost use Rattle.analysis.specs.Bounds.{askedWith, bears, borne, limitOf, limitAt, noBounds, backupsOf, foundBounds, hopeless, largestOf, below, boundsRefusal, withinBounds};
 use crate::Bounds;
 use crate::Columns;
 use crate::Ordered;
@@ -110,7 +110,7 @@ fn limits_of(table: Table, rule: Rule) -> [u32; 72]
 // Whether some record of a good table does not bear its own backup though it runs at its own priority.
 pub fn some_missed(table: Table) -> bool
     requires { ⌜ tableRefusal table ≡ 0 ⌝ }
-    ensures { λ r. ⌜ r ≡ someBelow (ownMissed (tasksOf table (table .interval) [])) (table .count) ⌝ }
+    ensures { λ r. ⌜ r ≡ hopeless table ⌝ }
 {
     let held = order::ordered(table, [0u8; 8]);
     let ordered = held.table;
@@ -128,10 +128,11 @@ pub fn some_missed(table: Table) -> bool
 }
 
 // The bounds of a refused table.
-pub fn none() -> Bounds
-    ensures { λ r. ⌜ r ≡ noBounds ⌝ }
+pub fn none(refusal: u8) -> Bounds
+    ensures { λ r. ⌜ r ≡ noBounds refusal ⌝ }
 {
     Bounds {
+        refusal,
         count: 0,
         priorities: [0u8; 8],
         backups: [0u16; 8],
@@ -170,6 +171,7 @@ pub fn found(table: Table, rule: Rule) -> Bounds
     let backups = columns.backups;
     let limits = limits_of(table, rule);
     Bounds {
+        refusal: 0,
         count: table.count,
         priorities,
         backups,
@@ -293,10 +295,20 @@ fn within_at(
     }
 }
 
+// The refusal of bounds that carry one, or have this count.
+pub fn judge(refusal: u8, count: u8) -> u8
+    ensures { λ r. ⌜ r ≡ boundsRefusal refusal count ⌝ }
+{
+    if refusal != 0 {
+        return refusal;
+    }
+    if (count == 0) | (8 < count) { 2 } else { 0 }
+}
+
 // Whether each record is within its limits under a rule.
 pub fn within(bounds: Bounds, choice: [u8; 8], rule: Rule) -> bool
     requires { ⌜ bounds .count ≤ 8 ⌝ }
-    ensures { λ r. ⌜ r ≡ not (someBelow (λ place. not (withinAt rule bounds choice place)) (bounds .count)) ⌝ }
+    ensures { λ r. ⌜ r ≡ withinBounds rule bounds choice ⌝ }
 {
     let count = bounds.count as usize;
     let backups = bounds.backups;

@@ -1,19 +1,21 @@
-// What is asked of a table by the equation "low": whether it is for the whole processor, the assured time of a record, and whether every record has one.
+// What is asked of a table by a rule: whether it is for the whole processor, where the rule is "low"; the time of a record; and every record's entry beside the verdict.
+// Times are computed with the records held from the highest priority to the lowest and answered in record order.
 ghost use mathlib.Core.Path.{_≡_};
-ghost use mathlib.Core.Bool.{true, cond};
+ghost use mathlib.Core.Bool.{cond};
 ghost use Prim.Native.Nat.{_<_};
-ghost use Rattle.sheet.specs.Layout.{recordAt, isWhole};
+ghost use Rattle.sheet.specs.Layout.{isWhole};
 ghost use Rattle.sheet.specs.Rules.{tableRefusal};
 ghost use Rattle.analysis.specs.Tasks.{tasksOf};
 ghost use Rattle.analysis.specs.Allowed.{levelsOf, Within};
-ghost use Rattle.analysis.specs.Low.{backupAhead, lowTime, assured, unassured};
+ghost use Rattle.analysis.specs.declared.Rule.the-variants.{Low};
+ghost use Rattle.analysis.specs.Low.{backupAhead, lowTime};
 ghost use Rattle.analysis.specs.Bounds.{backupsOf};
 ghost use Rattle.analysis.specs.Demand.{HeldInOrder};
-ghost use Rattle.analysis.specs.Answers.{outcomeOf};
-ghost use Rattle.analysis.specs.Judged.{shareRefusal};
+ghost use Rattle.analysis.specs.Judged.{shareRefusal, ruleRefusal, judgedRefusal, timeBy, entryBy, choiceAssessmentBy};
+use crate::Assessment;
 use crate::Columns;
+use crate::Entry;
 use crate::Ordered;
-use crate::Outcome;
 use crate::Rule;
 use crate::bearing;
 use crate::low;
@@ -49,12 +51,11 @@ fn backup_ahead(table: Table, columns: Columns, choice: [u8; 8], place: usize) -
     low::largest_ahead(backups, priorities, choice, table.count as usize, place)
 }
 
-// The time by "low" of the record at a place of a good table for the whole processor, or 0.
-fn low_at(table: Table, choice: [u8; 8], place: usize) -> u64
-    requires { ⌜ (tableRefusal table ≡ 0) × (isWhole (table .round) (table .share) ≡ true) × (Within table choice) × (place < table .count) ⌝ }
+// The time by "low" of the record at a place of a table that is not refused, or 0.
+fn low_at(table: Table, held: Ordered, choice: [u8; 8], place: usize) -> u64
+    requires { ⌜ (ruleRefusal Low table ≡ 0) × (Within table choice) × (HeldInOrder table choice held) × (place < table .count) ⌝ }
     ensures { λ r. ⌜ (r ≡ lowTime (tasksOf table (table .interval) choice) place) × (r < 65536) ⌝ }
 {
-    let held = order::ordered(table, choice);
     let backup = backup_ahead(table, bearing::columns_of(table), choice, place);
     let rank = order::rank_of(table, place);
     let fault = choice[place];
@@ -62,46 +63,47 @@ fn low_at(table: Table, choice: [u8; 8], place: usize) -> u64
     low::low_with(held.table, table.interval, rank, fault, backup, limit)
 }
 
-// The assured time of the record, or late.
-pub fn low_outcome(table: Table, choice: [u8; 8], place: usize) -> Outcome
-    requires { ⌜ (tableRefusal table ≡ 0) × (isWhole (table .round) (table .share) ≡ true) × (Within table choice) × (place < table .count) ⌝ }
-    ensures { λ r. ⌜ r ≡ outcomeOf (recordAt (table .records) place .deadline) (lowTime (tasksOf table (table .interval) choice) place) ⌝ }
+// The time by a rule of the record at a place, or 0.
+fn time_at(table: Table, held: Ordered, choice: [u8; 8], place: usize, rule: Rule) -> u16
+    requires { ⌜ (ruleRefusal rule table ≡ 0) × (Within table choice) × (HeldInOrder table choice held) × (place < table .count) ⌝ }
+    ensures { λ r. ⌜ r ≡ timeBy rule (tasksOf table (table .interval) choice) place ⌝ }
 {
-    let time = low_at(table, choice, place) as u16;
-    response::outcome(table.records[place].deadline, time)
+    match rule {
+        Rule::Published => response::response_at(held, order::rank_of(table, place)),
+        Rule::Low => low_at(table, held, choice, place) as u16,
+    }
 }
 
-// Whether the record at a place has no assured time.
-fn is_unassured(
-    table: Table,
-    held: Ordered,
-    columns: Columns,
-    choice: [u8; 8],
-    place: usize,
-) -> bool
-    requires { ⌜ (tableRefusal table ≡ 0) × (isWhole (table .round) (table .share) ≡ true) × (Within table choice) × (HeldInOrder table choice held) × (columns .priorities ≡ levelsOf table) × (columns .backups ≡ backupsOf table) × (place < table .count) ⌝ }
-    ensures { λ r. ⌜ r ≡ unassured (tasksOf table (table .interval) choice) place ⌝ }
+// The entry by a rule of the record at a place.
+pub fn entry_at(table: Table, held: Ordered, choice: [u8; 8], place: usize, rule: Rule) -> Entry
+    requires { ⌜ (ruleRefusal rule table ≡ 0) × (Within table choice) × (HeldInOrder table choice held) × (place < table .count) ⌝ }
+    ensures { λ r. ⌜ r ≡ entryBy rule (tasksOf table (table .interval) choice) place ⌝ }
 {
-    let backup = backup_ahead(table, columns, choice, place);
-    let rank = order::rank_of(table, place);
-    let fault = choice[place];
-    !bearing::bears(held.table, rank, fault, backup, Rule::Low)
+    let time = time_at(table, held, choice, place, rule);
+    response::entry(table.records[place].deadline, time)
 }
 
-// Whether each record of a good table for the whole processor has an assured time.
-pub fn assured(table: Table, choice: [u8; 8]) -> bool
-    requires { ⌜ (tableRefusal table ≡ 0) × (isWhole (table .round) (table .share) ≡ true) × (Within table choice) ⌝ }
-    ensures { λ r. ⌜ r ≡ assured (tasksOf table (table .interval) choice) ⌝ }
+// The entries by a rule of a table that is not refused, each at its record's place, and whether none of them says late.
+pub fn assessment(table: Table, choice: [u8; 8], rule: Rule) -> Assessment
+    requires { ⌜ judgedRefusal rule table choice ≡ 0 ⌝ }
+    ensures { λ r. ⌜ r ≡ choiceAssessmentBy rule table choice ⌝ }
 {
     let held = order::ordered(table, choice);
-    let columns = bearing::columns_of(table);
     let count = table.count as usize;
-    let mut place: usize = 0;
-    while place < count {
-        if is_unassured(table, held, columns, choice, place) {
-            return false;
-        }
-        place += 1;
+    let mut entries = [response::no_entry(); 8];
+    let mut some_late = false;
+    let mut rank: usize = 0;
+    while rank < count {
+        let place = held.places[rank];
+        let filled = entry_at(table, held, choice, place, rule);
+        let outcome = filled.outcome;
+        entries[place] = filled;
+        some_late = some_late | response::says_late(outcome);
+        rank += 1;
     }
-    true
+    Assessment {
+        refusal: 0,
+        entries,
+        passes: !some_late,
+    }
 }

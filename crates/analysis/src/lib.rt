@@ -1,12 +1,9 @@
 // Response times, the verdict and the least fault interval of a timing table, by the equations of documents 01 and 02.
 // Every call answers any table: a refused one gets its number, beside zeros, no, or nothing else.
 ghost use mathlib.Core.Path.{_≡_};
-ghost use Rattle.analysis.specs.Answers.{timedRefusal, timedAnswer, choiceRefusal, assessmentOf, choiceAssessment, ownAssessment, intervalAnswer};
-ghost use Rattle.analysis.specs.Tasks.{tasksOf, ownChoice};
-ghost use Rattle.analysis.specs.Judged.{ruleRefusal, judgedRefusal, holdsAnswer, lowAnswer};
-ghost use Rattle.analysis.specs.Allowed.{Within};
-ghost use Rattle.analysis.specs.Bounds.{hopeless, boundsOf, withinBounds};
-ghost use Rattle.sheet.specs.Rules.{tableRefusal};
+ghost use Rattle.analysis.specs.Answers.{timedAnswer, choiceRefusal, choiceAssessment, ownAssessment, intervalAnswer};
+ghost use Rattle.analysis.specs.Judged.{ruleRefusal, judgedRefusal, choiceAssessmentBy, ownAssessmentBy, placeRefusal, timedBy};
+ghost use Rattle.analysis.specs.Bounds.{hopelessAnswer, boundsOf, withinAnswer};
 use sheet::Table;
 
 mod allowed;
@@ -37,13 +34,13 @@ pub struct Entry {
     pub slack: Slack,
 }
 
-// What `response_time` answers: the refusal, or 0 beside the record's entry.
+// What `response_time` and `time_by` answer: the refusal, or 0 beside the record's entry.
 pub struct Timed {
     pub refusal: u8,
     pub entry: Entry,
 }
 
-// What `assess` and `assess_choice` answer: the refusal, or 0 beside an entry for each record and whether no task is late.
+// What `assess`, `assess_choice` and both by a rule answer: the refusal, or 0 beside an entry for each record and whether no task is late.
 pub struct Assessment {
     pub refusal: u8,
     pub entries: [Entry; 8],
@@ -86,39 +83,20 @@ pub struct Columns {
     pub backups: [u16; 8],
 }
 
-// How large a backup each record of a table bears under a rule: the records' priorities and backups in record order, and the limits of each, one more than the largest
-// backup that it bears or 0; for the record at a place as M at 9 times the place, as N under a fault priority q at 9 times the place plus q.
+// How large a backup each record of a table bears under a rule: the refusal, or 0 beside the records' priorities and backups in record order, and the limits of each, one more
+// than the largest backup that it bears or 0; for the record at a place as M at 9 times the place, as N under a fault priority q at 9 times the place plus q.
 pub struct Bounds {
+    pub refusal: u8,
     pub count: u8,
     pub priorities: [u8; 8],
     pub backups: [u16; 8],
     pub limits: [u32; 72],
 }
 
-// The refusal of asking a table for the record at a place: the table's own, then 12.
-fn judge_record_place(table: Table, place: usize) -> u8
-    ensures { λ r. ⌜ r ≡ timedRefusal table place ⌝ }
-{
-    let refusal = sheet::judge_table(table);
-    if refusal != 0 {
-        return refusal;
-    }
-    if place < table.count as usize { 0 } else { 12 }
-}
-
-// The response time, or late, of the record at a place, beside its deadline.
-pub fn response_time(table: Table, place: usize) -> Timed
-    ensures { λ r. ⌜ r ≡ timedAnswer table place ⌝ }
-{
-    let refusal = judge_record_place(table, place);
-    if refusal != 0 {
-        return Timed {
-            refusal,
-            entry: response::no_entry(),
-        };
-    }
-    let entry = response::entry_at(table, response::own_choice(table), place);
-    Timed { refusal: 0, entry }
+// What `is_hopeless` and `holds_within` answer: the refusal, or 0 beside yes or no.
+pub struct Verdict {
+    pub refusal: u8,
+    pub yes: bool,
 }
 
 // The refusal of a table under a rule: the table's own, then 19 where the rule speaks of the whole processor.
@@ -154,37 +132,70 @@ pub fn judge_choice(table: Table, choice: [u8; 8]) -> u8
     judge_choice_by(table, choice, Rule::Published)
 }
 
-// The refusal, or what is asked of a good table under a choice: without times, the search ends at the first late task.
-fn answer(refusal: u8, table: Table, choice: [u8; 8], with_times: bool) -> Assessment
-    requires { ⌜ (refusal ≡ 0 → (tableRefusal table ≡ 0) × (Within table choice)) ⌝ }
-    ensures { λ r. ⌜ r ≡ assessmentOf refusal (tasksOf table (table .interval) choice) «with_times» ⌝ }
+// The refusal under a rule of asking for the record at a place: that of the table, then 12.
+fn judge_record_place(table: Table, place: usize, rule: Rule) -> u8
+    ensures { λ r. ⌜ r ≡ placeRefusal rule table place ⌝ }
 {
+    let refusal = judge_rule(table, rule);
     if refusal != 0 {
-        return response::no_times(refusal, false);
+        return refusal;
     }
-    if with_times {
-        return response::assessment(table, choice);
-    }
-    response::no_times(0, response::passes(table, choice))
+    if place < table.count as usize { 0 } else { 12 }
 }
 
-// Each record's entry, where the times are asked for, and whether no task is late, under a choice that takes the place of the table's own fault priorities.
-pub fn assess_choice(table: Table, choice: [u8; 8], with_times: bool) -> Assessment
-    ensures { λ r. ⌜ r ≡ choiceAssessment table choice «with_times» ⌝ }
+// The time by a rule, or late, of the record at a place, beside its deadline.
+pub fn time_by(table: Table, place: usize, rule: Rule) -> Timed
+    ensures { λ r. ⌜ r ≡ timedBy rule table place ⌝ }
 {
-    answer(judge_choice(table, choice), table, choice, with_times)
+    let refusal = judge_record_place(table, place, rule);
+    if refusal != 0 {
+        return Timed {
+            refusal,
+            entry: response::no_entry(),
+        };
+    }
+    let choice = response::own_choice(table);
+    let entry = judged::entry_at(table, order::ordered(table, choice), choice, place, rule);
+    Timed { refusal: 0, entry }
+}
+
+// The response time, or late, of the record at a place, beside its deadline.
+pub fn response_time(table: Table, place: usize) -> Timed
+    ensures { λ r. ⌜ r ≡ timedAnswer table place ⌝ }
+{
+    time_by(table, place, Rule::Published)
+}
+
+// Each record's entry by a rule, and whether no task is late by it, under a choice that takes the place of the table's own fault priorities.
+pub fn assess_choice_by(table: Table, choice: [u8; 8], rule: Rule) -> Assessment
+    ensures { λ r. ⌜ r ≡ choiceAssessmentBy rule table choice ⌝ }
+{
+    let refusal = judge_choice_by(table, choice, rule);
+    if refusal != 0 {
+        return response::no_times(refusal);
+    }
+    judged::assessment(table, choice, rule)
 }
 
 // The same under the table's own fault priorities, which are a choice of every good table.
-pub fn assess(table: Table, with_times: bool) -> Assessment
-    ensures { λ r. ⌜ r ≡ ownAssessment table «with_times» ⌝ }
+pub fn assess_by(table: Table, rule: Rule) -> Assessment
+    ensures { λ r. ⌜ r ≡ ownAssessmentBy rule table ⌝ }
 {
-    answer(
-        sheet::judge_table(table),
-        table,
-        response::own_choice(table),
-        with_times,
-    )
+    assess_choice_by(table, response::own_choice(table), rule)
+}
+
+// Each record's entry, and whether no task is late, under a choice.
+pub fn assess_choice(table: Table, choice: [u8; 8]) -> Assessment
+    ensures { λ r. ⌜ r ≡ choiceAssessment table choice ⌝ }
+{
+    assess_choice_by(table, choice, Rule::Published)
+}
+
+// The same under the table's own fault priorities.
+pub fn assess(table: Table) -> Assessment
+    ensures { λ r. ⌜ r ≡ ownAssessment table ⌝ }
+{
+    assess_by(table, Rule::Published)
 }
 
 // The smallest fault interval at which the table passes with its own fault priorities.
@@ -202,65 +213,43 @@ pub fn least_interval(table: Table) -> Interval
     Interval::Least(least)
 }
 
-// Whether some record of a good table is late under every choice because of its own backup: one search for each record at most.
-pub fn is_hopeless(table: Table) -> bool
-    ensures { λ r. ⌜ r ≡ hopeless table ⌝ }
+// Whether some record is late under every choice because of its own backup: one search for each record at most.
+pub fn is_hopeless(table: Table) -> Verdict
+    ensures { λ r. ⌜ r ≡ hopelessAnswer table ⌝ }
 {
-    if sheet::judge_table(table) != 0 {
-        return false;
+    let refusal = sheet::judge_table(table);
+    if refusal != 0 {
+        return Verdict {
+            refusal,
+            yes: false,
+        };
     }
-    bearing::some_missed(table)
+    let yes = bearing::some_missed(table);
+    Verdict { refusal: 0, yes }
 }
 
 // How large a backup each record bears under a rule, found by at most ten searches for each record and each fault priority that it can have, and for M.
 pub fn bounds_of(table: Table, rule: Rule) -> Bounds
     ensures { λ r. ⌜ r ≡ boundsOf rule table ⌝ }
 {
-    if sheet::judge_table(table) != 0 {
-        return bearing::none();
+    let refusal = judge_rule(table, rule);
+    if refusal != 0 {
+        return bearing::none(refusal);
     }
     bearing::found(table, rule)
 }
 
 // Whether a choice stays within bounds under a rule: for those of a good table and a choice that it has, whether it holds by the rule.
-pub fn holds_within(bounds: Bounds, choice: [u8; 8], rule: Rule) -> bool
-    ensures { λ r. ⌜ r ≡ withinBounds rule bounds choice ⌝ }
+pub fn holds_within(bounds: Bounds, choice: [u8; 8], rule: Rule) -> Verdict
+    ensures { λ r. ⌜ r ≡ withinAnswer rule bounds choice ⌝ }
 {
-    if 8 < bounds.count {
-        return false;
+    let refusal = bearing::judge(bounds.refusal, bounds.count);
+    if refusal != 0 {
+        return Verdict {
+            refusal,
+            yes: false,
+        };
     }
-    bearing::within(bounds, choice, rule)
-}
-
-// Whether a choice holds by a rule: passes, or is assured. Where it is refused, no.
-pub fn holds(table: Table, choice: [u8; 8], rule: Rule) -> bool
-    ensures { λ r. ⌜ r ≡ holdsAnswer rule table choice ⌝ }
-{
-    if judge_choice_by(table, choice, rule) != 0 {
-        return false;
-    }
-    match rule {
-        Rule::Published => response::passes(table, choice),
-        Rule::Low => judged::assured(table, choice),
-    }
-}
-
-// The assured time of the record at a place under a choice, or late; where it is refused, 0.
-pub fn low_time(table: Table, choice: [u8; 8], place: usize) -> Outcome
-    ensures { λ r. ⌜ r ≡ lowAnswer table choice place ⌝ }
-{
-    if judge_choice_by(table, choice, Rule::Low) != 0 {
-        return Outcome::OnTime(0);
-    }
-    if table.count as usize <= place {
-        return Outcome::OnTime(0);
-    }
-    judged::low_outcome(table, choice, place)
-}
-
-// The fault priorities that a table has itself, 0 past the count.
-pub fn own_choice(table: Table) -> [u8; 8]
-    ensures { λ r. ⌜ r ≡ ownChoice table ⌝ }
-{
-    response::own_choice(table)
+    let yes = bearing::within(bounds, choice, rule);
+    Verdict { refusal: 0, yes }
 }

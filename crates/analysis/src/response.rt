@@ -1,20 +1,19 @@
-// Response times: struck elsewhere, struck itself, the larger of both; and what is asked of all records together. They are computed with the records
-// held from the highest priority to the lowest and answered in record order. Fault priorities come from a choice beside the table. Each time is searched for up to a limit: 65,535 for a figure, the deadline for the verdict.
+// Response times: struck elsewhere, struck itself, the larger of both; what an entry says of a time; and the least interval. Times are computed with the records held from the
+// highest priority to the lowest. Fault priorities come from a choice beside the table. Each time is searched for up to a limit: 65,535 for a figure, the deadline for the least interval.
 ghost use mathlib.Core.Path.{_≡_};
-ghost use mathlib.Core.Bool.{true};
 ghost use Prim.Native.Nat.{_+_, _≤_, _<_};
 ghost use mathlib.Core.List.{[]};
 ghost use Rattle.sheet.specs.Rules.{tableRefusal};
 ghost use Rattle.analysis.specs.Tasks.{tasksOf, faultAt, ownChoice};
-ghost use Rattle.analysis.specs.Allowed.{Within};
 ghost use Rattle.analysis.specs.Demand.{Sorted, Chosen};
 ghost use Rattle.analysis.specs.Search.{leastWithin};
 ghost use Rattle.analysis.specs.Bounds.{askedElsewhere, askedItself};
-ghost use Rattle.analysis.specs.Response.{timeElsewhere, timeItself, responseWithin, late, passes};
-ghost use Rattle.analysis.specs.Answers.{outcomeOf, saysLate, slackOf, entryOf, noEntry, untimed, assessmentOf, leastInterval};
+ghost use Rattle.analysis.specs.Response.{timeElsewhere, timeItself, responseWithin, responseTime, late, passes};
+ghost use Rattle.analysis.specs.Answers.{outcomeOf, saysLate, slackOf, entryFrom, noEntry, untimed, leastInterval};
 use crate::Assessment;
 use crate::Demand;
 use crate::Entry;
+use crate::Ordered;
 use crate::Outcome;
 use crate::Slack;
 use crate::order;
@@ -110,8 +109,18 @@ fn response(table: Table, interval: u16, faults: [u8; 8], rank: usize, limit: u6
     }
 }
 
-// A response time, 0 for none, as an outcome.
-pub fn outcome(deadline: u16, time: u16) -> Outcome
+// The response time of the record at a rank of a table held in order, or 0.
+pub fn response_at(held: Ordered, rank: usize) -> u16
+    requires { ⌜ (Sorted (held .table)) × (Chosen (held .table) (held .faults)) × (1 ≤ held .table .interval) × (rank < held .table .count) ⌝ }
+    ensures { λ r. ⌜ r ≡ responseTime (tasksOf (held .table) (held .table .interval) (held .faults)) rank ⌝ }
+{
+    let faults = held.faults;
+    let limit = workload::wide(LONGEST);
+    response(held.table, held.table.interval, faults, rank, limit)
+}
+
+// A time, 0 for none, as an outcome.
+fn outcome(deadline: u16, time: u16) -> Outcome
     ensures { λ r. ⌜ r ≡ outcomeOf deadline time ⌝ }
 {
     if time == 0 {
@@ -123,7 +132,7 @@ pub fn outcome(deadline: u16, time: u16) -> Outcome
     Outcome::OnTime(time)
 }
 
-// The deadline less a response time, 0 for none.
+// The deadline less a time, 0 for none.
 fn margin(deadline: u16, time: u16) -> Slack
     ensures { λ r. ⌜ r ≡ slackOf deadline time ⌝ }
 {
@@ -144,14 +153,14 @@ pub fn no_entry() -> Entry
     }
 }
 
-// The answer without times: the refusal and the verdict.
-pub fn no_times(refusal: u8, passes: bool) -> Assessment
-    ensures { λ r. ⌜ r ≡ untimed refusal passes ⌝ }
+// The answer of a refused call.
+pub fn no_times(refusal: u8) -> Assessment
+    ensures { λ r. ⌜ r ≡ untimed refusal ⌝ }
 {
     Assessment {
         refusal,
         entries: [no_entry(); 8],
-        passes,
+        passes: false,
     }
 }
 
@@ -179,14 +188,10 @@ pub fn own_choice(table: Table) -> [u8; 8]
     choice
 }
 
-// The entry of the record at a rank.
-fn entry(table: Table, faults: [u8; 8], rank: usize) -> Entry
-    requires { ⌜ (Sorted table) × (Chosen table faults) × (1 ≤ table .interval) × (rank < table .count) ⌝ }
-    ensures { λ r. ⌜ r ≡ entryOf (tasksOf table (table .interval) faults) rank ⌝ }
+// The entry of a deadline and a time, 0 for none.
+pub fn entry(deadline: u16, time: u16) -> Entry
+    ensures { λ r. ⌜ r ≡ entryFrom deadline time ⌝ }
 {
-    let deadline = table.records[rank].deadline;
-    let limit = workload::wide(LONGEST);
-    let time = response(table, table.interval, faults, rank, limit);
     Entry {
         deadline,
         outcome: outcome(deadline, time),
@@ -194,48 +199,13 @@ fn entry(table: Table, faults: [u8; 8], rank: usize) -> Entry
     }
 }
 
-// The entry of the record at a place.
-pub fn entry_at(table: Table, choice: [u8; 8], place: usize) -> Entry
-    requires { ⌜ (tableRefusal table ≡ 0) × (Within table choice) × (place < table .count) ⌝ }
-    ensures { λ r. ⌜ r ≡ entryOf (tasksOf table (table .interval) choice) place ⌝ }
-{
-    let held = order::ordered(table, choice);
-    let faults = held.faults;
-    entry(held.table, faults, order::rank_of(table, place))
-}
-
 // Whether an outcome is the word late.
-fn says_late(outcome: Outcome) -> bool
+pub fn says_late(outcome: Outcome) -> bool
     ensures { λ r. ⌜ r ≡ saysLate outcome ⌝ }
 {
     match outcome {
         Outcome::OnTime(_) => false,
         Outcome::Late => true,
-    }
-}
-
-// The entries of a good table under a choice, each at its record's place, and whether none of them says late.
-pub fn assessment(table: Table, choice: [u8; 8]) -> Assessment
-    requires { ⌜ (tableRefusal table ≡ 0) × (Within table choice) ⌝ }
-    ensures { λ r. ⌜ r ≡ assessmentOf 0 (tasksOf table (table .interval) choice) true ⌝ }
-{
-    let held = order::ordered(table, choice);
-    let faults = held.faults;
-    let count = table.count as usize;
-    let mut entries = [no_entry(); 8];
-    let mut some_late = false;
-    let mut rank: usize = 0;
-    while rank < count {
-        let filled = entry(held.table, faults, rank);
-        let outcome = filled.outcome;
-        entries[held.places[rank]] = filled;
-        some_late = some_late | says_late(outcome);
-        rank += 1;
-    }
-    Assessment {
-        refusal: 0,
-        entries,
-        passes: !some_late,
     }
 }
 
@@ -262,16 +232,6 @@ fn passes_in_order(table: Table, interval: u16, faults: [u8; 8]) -> bool
         }
     }
     true
-}
-
-// Whether no record of a good table is late under a choice.
-pub fn passes(table: Table, choice: [u8; 8]) -> bool
-    requires { ⌜ (tableRefusal table ≡ 0) × (Within table choice) ⌝ }
-    ensures { λ r. ⌜ r ≡ passes (tasksOf table (table .interval) choice) ⌝ }
-{
-    let held = order::ordered(table, choice);
-    let faults = held.faults;
-    passes_in_order(held.table, table.interval, faults)
 }
 
 // The least interval at which a good table passes, or 0. None passes at 1, and what passes at one interval passes at a larger one; so what lies between an

@@ -83,7 +83,7 @@ fn say_interval(list: &[u8], at: usize, table: Table) -> usize {
 // The response times.
 pub fn times(list: &[u8], start: usize, at: usize) -> usize {
     let table = samples::table(list, start);
-    say_times(list, at, analysis::assess(table, true))
+    say_times(list, at, analysis::assess(table))
 }
 
 // The response time at a place, which is asked for.
@@ -97,21 +97,21 @@ pub fn time(list: &[u8], start: usize, at: usize) -> usize {
 // The verdict.
 pub fn verdict(list: &[u8], start: usize, at: usize) -> usize {
     let table = samples::table(list, start);
-    say_verdict(list, at, analysis::assess(table, false))
+    say_verdict(list, at, analysis::assess(table))
 }
 
 // The verdict under a choice, which is asked for.
 pub fn verdict_under(list: &[u8], start: usize, at: usize) -> usize {
     let table = samples::table(list, start);
     let choice = rows::choice(rows::figure(list, start, 2));
-    say_verdict(list, at, analysis::assess_choice(table, choice, false))
+    say_verdict(list, at, analysis::assess_choice(table, choice))
 }
 
 // The times and the verdict, in one answer, under a choice, which is asked for.
 pub fn both_under(list: &[u8], start: usize, at: usize) -> usize {
     let table = samples::table(list, start);
     let choice = rows::choice(rows::figure(list, start, 2));
-    let answer = analysis::assess_choice(table, choice, true);
+    let answer = analysis::assess_choice(table, choice);
     say_verdict(list, say_times(list, at, answer), answer)
 }
 
@@ -123,12 +123,12 @@ pub fn interval(list: &[u8], start: usize, at: usize) -> usize {
 // Every call's answer, that of the verdict under 1 1 1 among them.
 pub fn every(list: &[u8], start: usize, at: usize) -> usize {
     let table = samples::table(list, start);
-    let both = analysis::assess(table, true);
+    let both = analysis::assess(table);
     let at = say_times(list, rows::say(list, at, b", times:"), both);
     let at = rows::say(list, at, b", verdict:");
-    let at = say_verdict(list, at, analysis::assess(table, false));
+    let at = say_verdict(list, at, both);
     let at = rows::say(list, at, b", verdict under 1 1 1:");
     let choice = rows::choice(11100000);
-    let at = say_verdict(list, at, analysis::assess_choice(table, choice, false));
+    let at = say_verdict(list, at, analysis::assess_choice(table, choice));
     say_interval(list, rows::say(list, at, b", least interval:"), table)
 }

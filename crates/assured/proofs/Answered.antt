@@ -1,38 +1,88 @@
 -- The answers of the calls that the calls of analysis and choices give under the rule "low". Assumes nothing.
-use Prim.Native.Nat.{ℕ, _<_}
-use mathlib.Core.Path.{_≡_, refl, sym, _∙_}
-use mathlib.Core.Bool.{cond}
+use Prim.Native.Nat.{ℕ, _≤_, _<_}
+use mathlib.Core.Path.{_≡_, refl, sym, ap, _∙_}
+use mathlib.Core.Bool.{Bool, true, false, cond}
+use native.Mathlib.Decide.{ℕ-discrete, decLt}
+use native.Mathlib.Omega.{arith}
+use borrow.Author.Tests.{eq-eqb, ne-eqb}
+use lib.Dec.{eqb}
+use lib.ListN.{length, getD, replicate, getD-replicate}
+use lib.Seq.{ext-getD}
 use Rattle.sheet.specs.declared.Table.{Table}
-use Rattle.sheet.specs.Layout.{recordAt}
-use Rattle.sheet.proofs.Turns.{next-of}
+use Rattle.sheet.specs.Places.{filledBelow}
+use Rattle.sheet.proofs.Agree.{filled-at}
+use Rattle.sheet.proofs.Cases.{good-table}
+use Rattle.sheet.proofs.Turns.{length-filled}
+use Rattle.analysis.specs.declared.Assessment.{Assessment}
+use Rattle.analysis.specs.declared.Entry.{Entry as Whole}
+use Rattle.analysis.specs.declared.Timed.{Timed as WholeTimed}
 use Rattle.analysis.specs.declared.Rule.the-variants.{Low}
-use Rattle.analysis.specs.Tasks.{ownChoice}
-use Rattle.analysis.specs.Low.{lowTime, assured}
-use Rattle.analysis.specs.Allowed.{levelsOf, allAllowed}
-use Rattle.analysis.specs.Answers.{outcomeOf, ownTasks}
-use Rattle.analysis.specs.Judged.{holds, shareRefusal, ruleRefusal, judgedRefusal, holdsAnswer, lowAnswer}
-use Rattle.analysis.proofs.Choice.{allowed-exactly, length-own, own-allowed}
-use Rattle.analysis.proofs.Judging.{rule-good, low-given, holds-given}
+use Rattle.analysis.specs.Low.{assured}
+use Rattle.analysis.specs.Answers.{ownTasks, entryFrom, assessed, noEntry as noWhole}
+use Rattle.analysis.specs.Judged.{holds, shareRefusal, ruleRefusal, timeBy, entryBy, choiceAssessmentBy, ownAssessmentBy, placeRefusal as lowPlaceRefusal, timedBy}
+use Rattle.analysis.proofs.Choice.{filled-past}
+use Rattle.analysis.proofs.Judging.{rule-good, own-judged}
 use Rattle.replay.specs.Rules.{sharedRefusal}
-use Rattle.assured.specs.Answers.{assuredRefusal}
+use Rattle.assured.specs.declared.Timed.{Timed}
+use Rattle.assured.specs.declared.Times.{Times}
+use Rattle.assured.specs.Answers.{assuredRefusal, placeRefusal, entryOf, noEntry, withoutSlack, timeAnswer, timesAnswer}
 
 -- the table's own rules and 19 are what the rule "low" refuses a table for
 pub refusal-low : (t : Table) → assuredRefusal t ≡ ruleRefusal Low t
 unfolding assuredRefusal ruleRefusal shareRefusal sharedRefusal
 refusal-low t = refl
 
--- under the table's own fault priorities, which are a choice of every good table
-module _ (t : Table) (fine : assuredRefusal t ≡ 0) where
-  own-judged : judgedRefusal Low t (ownChoice t) ≡ 0
-  unfolding judgedRefusal
-  own-judged =
-      let low = sym (refusal-low t) ∙ fine in
-      let good = rule-good Low t low in
-      next-of {a = ruleRefusal Low t} (cond (allAllowed (levelsOf t) (ownChoice t)) 0 13) low ∙ simp (allowed-exactly t good (ownChoice t) (length-own t) .1 (own-allowed t good))
+-- the answer of `time_by` without the slack
+abbrev pub timedOf : WholeTimed → Timed
+timedOf given = record { refusal = given .refusal; entry = withoutSlack (given .entry) }
 
-  pub own-time : (place : ℕ) → place < t .count → lowAnswer t (ownChoice t) place ≡ outcomeOf (recordAt (t .records) place .deadline) (lowTime (ownTasks t) place)
-  own-time place = low-given t (ownChoice t) place own-judged
+pub time-low : (t : Table) (place : ℕ) → timedOf (timedBy Low t place) ≡ timeAnswer t place
+unfolding timeAnswer timedBy placeRefusal lowPlaceRefusal assuredRefusal ruleRefusal shareRefusal sharedRefusal entryBy timeBy entryFrom entryOf
+time-low t place = go (eqb (placeRefusal t place) 0)
+  where
+    go : (b : Bool) → timedOf (record { refusal = placeRefusal t place; entry = cond b (entryBy Low (ownTasks t) place) noWhole }) ≡ record { refusal = placeRefusal t place; entry = cond b (entryOf (ownTasks t) place) noEntry }
+    go true = refl
+    go false = refl
 
-  pub own-holds : holdsAnswer Low t (ownChoice t) ≡ assured (ownTasks t)
-  unfolding holds
-  own-holds = holds-given Low t (ownChoice t) own-judged
+-- a list of eight filled below a place, each entry under a function
+pub filled-under : {A B : Type 0} (f : A → B) (g : ℕ → A) (a : A) (n : ℕ) → n ≤ 8 → filledBelow (λ k. f (getD (filledBelow g n (replicate 8 a)) k a)) 8 (replicate 8 (f a)) ≡ filledBelow (λ k. f (g k)) n (replicate 8 (f a))
+filled-under {A} {B} f g a n few =
+    ext-getD (f a) (filledBelow under 8 (replicate 8 (f a))) (filledBelow (λ k. f (g k)) n (replicate 8 (f a))) (eight under 8 ∙ sym (eight (λ k. f (g k)) n))
+    (λ k low. let below : k < 8 = omega (arith, eight under 8) in filled-at under 8 (replicate 8 (f a)) (f a) (omega arith) k below ∙ at k below (decLt k n))
+  where
+    under : ℕ → B
+    under k = f (getD (filledBelow g n (replicate 8 a)) k a)
+
+    eight : (h : ℕ → B) (m : ℕ) → length (filledBelow h m (replicate 8 (f a))) ≡ 8
+    eight h m = length-filled h m (replicate 8 (f a))
+
+    at : (k : ℕ) → k < 8 → Dec (k < n) → under k ≡ getD (filledBelow (λ j. f (g j)) n (replicate 8 (f a))) k (f a)
+    at k low (yes below) = ap f (filled-at g n (replicate 8 a) a few k below) ∙ sym (filled-at (λ j. f (g j)) n (replicate 8 (f a)) (f a) few k below)
+    at k low (no over) =
+        ap f (filled-past g n (replicate 8 a) a k (omega arith) ∙ getD-replicate 8 k a a low)
+        ∙ sym (filled-past (λ j. f (g j)) n (replicate 8 (f a)) (f a) k (omega arith) ∙ getD-replicate 8 k (f a) (f a) low)
+
+-- the answer of `assess_by` without the slacks
+abbrev pub timesOf : Assessment → Times
+timesOf given =
+    record { refusal = given .refusal; entries = filledBelow (λ k. withoutSlack (getD (given .entries) k noWhole)) 8 (replicate 8 noEntry); assured = given .passes }
+
+entries-of : (refusal : ℕ) (entry : ℕ → Whole) (n : ℕ) → (refusal ≡ 0 → n ≤ 8)
+    → filledBelow (λ k. withoutSlack (getD (cond (eqb refusal 0) (filledBelow entry n (replicate 8 noWhole)) (replicate 8 noWhole)) k noWhole)) 8 (replicate 8 noEntry)
+    ≡ cond (eqb refusal 0) (filledBelow (λ k. withoutSlack (entry k)) n (replicate 8 noEntry)) (replicate 8 noEntry)
+unfolding filledBelow
+entries-of refusal entry n few = go (ℕ-discrete refusal 0)
+  where
+    go : Dec (refusal ≡ 0) → filledBelow (λ k. withoutSlack (getD (cond (eqb refusal 0) (filledBelow entry n (replicate 8 noWhole)) (replicate 8 noWhole)) k noWhole)) 8 (replicate 8 noEntry)
+        ≡ cond (eqb refusal 0) (filledBelow (λ k. withoutSlack (entry k)) n (replicate 8 noEntry)) (replicate 8 noEntry)
+    go (yes fine) = rw (eq-eqb refusal 0 fine) (filled-under withoutSlack entry noWhole n (few fine))
+    go (no broken) = rw (ne-eqb refusal 0 broken) (filled-under withoutSlack entry noWhole 0 (omega arith))
+
+pub times-low : (t : Table) → timesOf (ownAssessmentBy Low t) ≡ timesAnswer t
+unfolding ownAssessmentBy choiceAssessmentBy assessed timesAnswer holds entryBy timeBy entryFrom entryOf
+times-low t =
+    let s = ownTasks t in
+    let refusal = own-judged Low t ∙ sym (refusal-low t) in
+    let few : assuredRefusal t ≡ 0 → t .count ≤ 8 = λ fine. good-table t (rule-good Low t (sym (refusal-low t) ∙ fine)) .count .1 in
+    ap (λ (r : ℕ). timesOf (assessed r (entryBy Low s) (t .count) (holds Low s))) refusal
+    ∙ (λ j. record { refusal = assuredRefusal t; entries = entries-of (assuredRefusal t) (entryBy Low s) (t .count) few j; assured = cond (eqb (assuredRefusal t) 0) (assured s) false })

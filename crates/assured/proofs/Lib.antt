@@ -4,4 +4,5 @@ pub mod Replacing
 pub mod Request
 pub mod Demands
 pub mod Rows
+pub mod Refused
 pub mod Unique

@@ -1,25 +1,25 @@
--- Each public call's promise leaves one answer and one content of the lent output: any two that it admits are equal. Assumes nothing.
-use Prim.Native.Nat.{ℕ}
+-- Each public call's contract leaves one answer and one content of the lent output: any two that its own reading admits are equal. Assumes nothing.
 use mathlib.Core.Path.{_≡_}
-use mathlib.Core.List.{List}
-use Rattle.sheet.specs.declared.Table.{Table}
+use contract.Lifetimes.{Lfts}
 use Rattle.sheet.proofs.Unique.{both}
-use Rattle.choices.specs.declared.Walk.{Walk}
+use Rattle.choices.proofs.Unique.{both-parts}
 use Rattle.choices.specs.declared.Stepped.{Stepped}
 use Rattle.choices.specs.declared.Listing.{Listing}
 use Rattle.assured.specs.declared.Timed.{Timed}
 use Rattle.assured.specs.declared.Times.{Times}
-use Rattle.assured.specs.Answers.{timeAnswer, timesAnswer, stepAnswer, listAnswer, listLeaves}
+use Rattle.assured.proofs.assured_time.Reads as timed
+use Rattle.assured.proofs.assured_times.Reads as times
+use Rattle.assured.proofs.step.Reads as stepped
+use Rattle.assured.proofs.list.Reads as listed
 
-pub assured-time-unique : (t : Table) (place : ℕ) (a b : Timed) → a ≡ timeAnswer t place → b ≡ timeAnswer t place → a ≡ b
-assured-time-unique t place a b = both
+pub assured-time-unique : (args : _) (a b : Timed) (s : _) → timed.Learnt tt args a s → timed.Learnt tt args b s → a ≡ b
+assured-time-unique args a b s = both
 
-pub assured-times-unique : (t : Table) (a b : Times) → a ≡ timesAnswer t → b ≡ timesAnswer t → a ≡ b
-assured-times-unique t a b = both
+pub assured-times-unique : (args : _) (a b : Times) (s : _) → times.Learnt tt args a s → times.Learnt tt args b s → a ≡ b
+assured-times-unique args a b s = both
 
-pub step-unique : (t : Table) (w : Walk) (a b : Stepped) → a ≡ stepAnswer t w → b ≡ stepAnswer t w → a ≡ b
-step-unique t w a b = both
+pub step-unique : (args : _) (a b : Stepped) (s : _) → stepped.Learnt tt args a s → stepped.Learnt tt args b s → a ≡ b
+step-unique args a b s = both
 
-pub list-unique : (t : Table) (out : List ℕ) (a b : Listing) (left left′ : List ℕ)
-    → (a ≡ listAnswer t out) × (left ≡ listLeaves t out) → (b ≡ listAnswer t out) × (left′ ≡ listLeaves t out) → (a ≡ b) × (left ≡ left′)
-list-unique t out a b left left′ p q = (both (p .0) (q .0), both (p .1) (q .1))
+pub list-unique : (κs : Lfts 1) (args : _) (a b : Listing) (s u : _) → listed.Learnt κs args a s → listed.Learnt κs args b u → (a ≡ b) × (s .1 .0 .now ≡ u .1 .0 .now)
+list-unique κs args a b s u = both-parts

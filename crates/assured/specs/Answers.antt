@@ -1,6 +1,6 @@
 -- What each public call answers, refusals included: "a table's or sheet's, 19, then as in the walk and the list".
 use Prim.Native.Nat.{ℕ}
-use mathlib.Core.Bool.{Bool, false, cond, _||_}
+use mathlib.Core.Bool.{false, cond, _||_}
 use mathlib.Core.List.{List}
 use lib.Dec.{eqb, ltb}
 use lib.ListN.{replicate}
@@ -8,6 +8,7 @@ use Rattle.sheet.specs.declared.Table.{Table}
 use Rattle.sheet.specs.Places.{orElse, filledBelow}
 use Rattle.sheet.specs.Rules.{tableRefusal}
 use Rattle.analysis.specs.declared.Outcome.the-variants.{OnTime}
+use Rattle.analysis.specs.declared.Entry.{Entry as Whole}
 use Rattle.analysis.specs.Tasks.{Tasks}
 use Rattle.analysis.specs.Low.{lowTime, assured}
 use Rattle.analysis.specs.Allowed.{levelsOf, allAllowed}
@@ -39,6 +40,10 @@ entryOf s i = record { deadline = s .at i .deadline; outcome = outcomeOf (s .at 
 abbrev pub noEntry : Entry
 noEntry = record { deadline = 0; outcome = OnTime 0 }
 
+-- an entry by the rule "low", of which no slack is told
+abbrev pub withoutSlack : Whole → Entry
+withoutSlack given = record { deadline = given .deadline; outcome = given .outcome }
+
 -- the refusal of `assured_time`: 12, "the record place asked for is not below the count", last
 unfoldable pub placeRefusal : Table → ℕ → ℕ
 placeRefusal t place = orElse (assuredRefusal t) (cond (ltb place (t .count)) 0 12)
@@ -46,10 +51,6 @@ placeRefusal t place = orElse (assuredRefusal t) (cond (ltb place (t .count)) 0 
 -- `assured_time`: the refusal beside the record's entry
 unfoldable pub timeAnswer : Table → ℕ → Timed
 timeAnswer t place = record { refusal = placeRefusal t place; entry = cond (eqb (placeRefusal t place) 0) (entryOf (ownTasks t) place) noEntry }
-
--- an answer without times
-abbrev pub untimed : ℕ → Times
-untimed refusal = record { refusal = refusal; entries = replicate 8 noEntry; assured = false }
 
 -- `assured_times`: the refusal, "the assured times of a table", and whether its own fault priorities are an assured choice; no where it is refused
 unfoldable pub timesAnswer : Table → Times

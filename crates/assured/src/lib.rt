@@ -1,9 +1,7 @@
 // The choices of fault priorities that hold in every run, by the equation "low": the assured times of a table, and every assured choice as a walk and as a list.
 // Every call answers any table: a refused one gets its number, 19 for a shared processor after the table's own, beside zeros, no, or nothing else.
 ghost use mathlib.Core.Path.{_≡_};
-ghost use Prim.Native.Nat.{_<_};
-ghost use Rattle.analysis.specs.Answers.{ownTasks};
-ghost use Rattle.assured.specs.Answers.{assuredRefusal, placeRefusal, noEntry, entryOf, untimed, timeAnswer, timesAnswer, stepAnswer, listAnswer, listLeaves};
+ghost use Rattle.assured.specs.Answers.{noEntry, withoutSlack, timeAnswer, timesAnswer, stepAnswer, listAnswer, listLeaves};
 use analysis::Outcome;
 use analysis::Rule;
 use choices::Listing;
@@ -30,17 +28,6 @@ pub struct Times {
     pub assured: bool,
 }
 
-// The refusal of asking for the record at a place: the table's, 19, then 12.
-fn judge_place(table: Table, place: usize) -> u8
-    ensures { λ r. ⌜ r ≡ placeRefusal table place ⌝ }
-{
-    let first = analysis::judge_rule(table, Rule::Low);
-    if first != 0 {
-        return first;
-    }
-    if place < table.count as usize { 0 } else { 12 }
-}
-
 // The entry of a refused call and of a place past the count.
 fn no_entry() -> Entry
     ensures { λ r. ⌜ r ≡ noEntry ⌝ }
@@ -51,14 +38,13 @@ fn no_entry() -> Entry
     }
 }
 
-// The entry of the record at a place.
-fn entry_at(table: Table, place: usize) -> Entry
-    requires { ⌜ (assuredRefusal table ≡ 0) × (place < table .count) ⌝ }
-    ensures { λ r. ⌜ r ≡ entryOf (ownTasks table) place ⌝ }
+// An entry by the rule "low", without its slack.
+fn without_slack(given: analysis::Entry) -> Entry
+    ensures { λ r. ⌜ r ≡ withoutSlack given ⌝ }
 {
-    let outcome = analysis::low_time(table, analysis::own_choice(table), place);
+    let outcome = given.outcome;
     Entry {
-        deadline: table.records[place].deadline,
+        deadline: given.deadline,
         outcome,
     }
 }
@@ -67,45 +53,11 @@ fn entry_at(table: Table, place: usize) -> Entry
 pub fn assured_time(table: Table, place: usize) -> Timed
     ensures { λ r. ⌜ r ≡ timeAnswer table place ⌝ }
 {
-    let refusal = judge_place(table, place);
-    if refusal != 0 {
-        return Timed {
-            refusal,
-            entry: no_entry(),
-        };
-    }
-    let entry = entry_at(table, place);
-    Timed { refusal: 0, entry }
-}
-
-// The answer of a refused call.
-fn no_times(refusal: u8) -> Times
-    ensures { λ r. ⌜ r ≡ untimed refusal ⌝ }
-{
-    Times {
-        refusal,
-        entries: [no_entry(); 8],
-        assured: false,
-    }
-}
-
-// The answer for a table that is not refused.
-fn all_times(table: Table) -> Times
-    requires { ⌜ assuredRefusal table ≡ 0 ⌝ }
-    ensures { λ r. ⌜ r ≡ timesAnswer table ⌝ }
-{
-    let count = table.count as usize;
-    let mut entries = [no_entry(); 8];
-    let mut place: usize = 0;
-    while place < count {
-        entries[place] = entry_at(table, place);
-        place += 1;
-    }
-    let assured = analysis::holds(table, analysis::own_choice(table), Rule::Low);
-    Times {
-        refusal: 0,
-        entries,
-        assured,
+    let timed = analysis::time_by(table, place, Rule::Low);
+    let entry = without_slack(timed.entry);
+    Timed {
+        refusal: timed.refusal,
+        entry,
     }
 }
 
@@ -113,11 +65,18 @@ fn all_times(table: Table) -> Times
 pub fn assured_times(table: Table) -> Times
     ensures { λ r. ⌜ r ≡ timesAnswer table ⌝ }
 {
-    let refusal = analysis::judge_rule(table, Rule::Low);
-    if refusal != 0 {
-        return no_times(refusal);
+    let assessment = analysis::assess_by(table, Rule::Low);
+    let mut entries = [no_entry(); 8];
+    let mut place: usize = 0;
+    while place < 8 {
+        entries[place] = without_slack(assessment.entries[place]);
+        place += 1;
     }
-    all_times(table)
+    Times {
+        refusal: assessment.refusal,
+        entries,
+        assured: assessment.passes,
+    }
 }
 
 // The next assured choice after the one that the walk stands at.

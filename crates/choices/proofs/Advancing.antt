@@ -18,15 +18,12 @@ use Rattle.sheet.proofs.Refused.{passed-if, tests}
 use Rattle.sheet.proofs.Cases.{good-table, good-at}
 use Rattle.analysis.specs.declared.Bounds.{Bounds}
 use Rattle.analysis.specs.declared.Rule.{Rule}
-use Rattle.analysis.specs.declared.Rule.the-variants.{Published, Low}
 use Rattle.analysis.specs.Tasks.{Tasks, tasksOf}
 use Rattle.analysis.specs.Allowed.{levelsOf, allAllowed, Within}
-use Rattle.analysis.specs.Judged.{holds, ruleRefusal, judgedRefusal, holdsAnswer}
-use Rattle.analysis.specs.Bounds.{withinBounds}
+use Rattle.analysis.specs.Judged.{holds, ruleRefusal, judgedRefusal, choiceAssessmentBy}
+use Rattle.analysis.specs.Bounds.{withinAnswer}
 use Rattle.analysis.proofs.Choice.{allowed-exactly, allowed-length, length-levels, level-at}
-use Rattle.analysis.proofs.Borne.{within-passes}
-use Rattle.analysis.proofs.Lowered.{within-assured}
-use Rattle.analysis.proofs.Judging.{rule-good, rule-whole, holds-given}
+use Rattle.analysis.proofs.Judging.{rule-good, assessed-holds, bounds-hold}
 use Rattle.choices.specs.Choices.{choicesOf, sift, chosen}
 use Rattle.choices.specs.Order.{allZero, afterOf}
 use Rattle.choices.specs.Answers.{walkRefusal, startRefusal}
@@ -132,16 +129,13 @@ module _ (rule : Rule) (t : Table) (fine : ruleRefusal rule t ≡ 0) (choice : L
   pub within-choice : Within t choice
   within-choice = allowed-exactly t (rule-good rule t fine) choice (allowed-length (levelsOf t) choice allowed ∙ length-levels t) .0 allowed .each
 
-  -- whether it holds, as `holds` answers
-  pub answer-holds : holdsAnswer rule t choice ≡ testWith (holds rule) t choice
+  -- whether it holds, as `assess_choice_by` answers
+  pub answer-holds : choiceAssessmentBy rule t choice .passes ≡ testWith (holds rule) t choice
   unfolding judgedRefusal
-  answer-holds = holds-given rule t choice (next-of {a = ruleRefusal rule t} (cond (allAllowed (levelsOf t) choice) 0 13) fine ∙ simp allowed)
+  answer-holds = assessed-holds rule t choice (next-of {a = ruleRefusal rule t} (cond (allAllowed (levelsOf t) choice) 0 13) fine ∙ simp allowed)
 
--- and where its bounds are known, staying within them
+-- and where its bounds are known, as `holds_within` answers
 pub known-holds : (rule : Rule) (t : Table) → ruleRefusal rule t ≡ 0 → (choice : List ℕ) → allAllowed (levelsOf t) choice ≡ true → (bounds : Bounds) → Knows rule t bounds → (bounds .count ≡ 0 → ⊥)
-    → withinBounds rule bounds choice ≡ testWith (holds rule) t choice
-unfolding holds
-known-holds Published t fine choice allowed bounds knows some =
-    ap (λ (b : Bounds). withinBounds Published b choice) (knows some) ∙ within-passes t (rule-good Published t fine) choice (within-choice Published t fine choice allowed)
-known-holds Low t fine choice allowed bounds knows some =
-    ap (λ (b : Bounds). withinBounds Low b choice) (knows some) ∙ within-assured t (rule-good Low t fine) (rule-whole t fine) choice (within-choice Low t fine choice allowed)
+    → withinAnswer rule bounds choice .yes ≡ testWith (holds rule) t choice
+known-holds rule t fine choice allowed bounds knows some =
+    ap (λ (b : Bounds). withinAnswer rule b choice .yes) (knows some) ∙ bounds-hold rule t fine choice (within-choice rule t fine choice allowed)

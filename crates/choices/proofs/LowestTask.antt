@@ -25,10 +25,10 @@ use Rattle.analysis.specs.Judged.{holds, ruleRefusal}
 use Rattle.analysis.specs.declared.Timed.{Timed}
 use Rattle.analysis.specs.Answers.{ownTasks, saysLate, timedAnswer}
 use Rattle.analysis.proofs.Verdicts.{some-found, none-below}
-use Rattle.analysis.proofs.Choice.{Allowed, and-true, both-true, allowed-exactly, allowed-length, length-levels, own-allowed}
+use Rattle.analysis.proofs.Choice.{Allowed, and-true, allowed-exactly, allowed-length, length-levels, own-allowed}
 use Rattle.analysis.proofs.Refused.{timed-given}
 use Rattle.analysis.proofs.Lowest.{response-lowest}
-use Rattle.analysis.specs.Bounds.{ownMissed, hopeless}
+use Rattle.analysis.specs.Bounds.{verdictOf, hopeless, hopelessAnswer}
 use Rattle.analysis.proofs.Borne.{hopeless-fails}
 use Rattle.analysis.proofs.Lowered.{raised-unassured, hopeless-unassured}
 use Rattle.analysis.proofs.Judging.{rule-good, rule-whole}
@@ -106,7 +106,7 @@ module _ (t : Table) where
       let raised : getD choice (at .0) 0 ≡ recordAt (t .records) (at .0) .priority = omega (arith, allowed .each (at .0) (at .1 .0), at .1 .1) in
       ap not (some-found (unassured (tasksOf t (t .interval) choice)) (at .0) (t .count) (at .1 .0) (raised-unassured t good (rule-whole t fine) choice (allowed .each) (at .0) (at .1 .0) raised ∙ late-too))
 
-  missed-fails : (rule : Rule) → ruleRefusal rule t ≡ 0 → someBelow (ownMissed (tasksOf t (t .interval) [])) (t .count) ≡ true → (choice : List ℕ) → Allowed t choice → testWith (holds rule) t choice ≡ false
+  missed-fails : (rule : Rule) → ruleRefusal rule t ≡ 0 → hopeless t ≡ true → (choice : List ℕ) → Allowed t choice → testWith (holds rule) t choice ≡ false
   unfolding holds
   missed-fails Published fine some choice allowed = hopeless-fails t (rule-good Published t fine) choice (allowed .each) some
   missed-fails Low fine some choice allowed = hopeless-unassured t (rule-good Low t fine) (rule-whole t fine) choice (allowed .each) some
@@ -122,6 +122,6 @@ module _ (t : Table) where
     pub tested-none : lowestLate t ≡ true → chosen (holds rule) t ≡ []
     tested-none is = none-holds (late-fails rule fine is)
 
-    pub hopeless-none : hopeless t ≡ true → chosen (holds rule) t ≡ []
-    unfolding hopeless
-    hopeless-none is = none-holds (missed-fails rule fine (both-true (eqb (tableRefusal t) 0) _ is .1))
+    pub hopeless-none : hopelessAnswer t .yes ≡ true → chosen (holds rule) t ≡ []
+    unfolding hopelessAnswer verdictOf
+    hopeless-none is = none-holds (missed-fails rule fine (sym (simp (eq-eqb (tableRefusal t) 0 (rule-good rule t fine))) ∙ is))

@@ -1,28 +1,31 @@
--- Each public call's promise leaves one answer and one content of the lent output: any two that it admits are equal. Assumes nothing.
-use Prim.Native.Nat.{ℕ}
+-- Each public call's contract leaves one answer and one content of the lent output: any two that its own reading admits are equal. Assumes nothing.
 use mathlib.Core.Path.{_≡_}
-use mathlib.Core.List.{List}
-use Rattle.sheet.specs.declared.Table.{Table}
+use contract.Lifetimes.{Lfts}
 use Rattle.sheet.proofs.Unique.{both}
-use Rattle.analysis.specs.declared.Rule.{Rule}
 use Rattle.choices.specs.declared.Walk.{Walk}
 use Rattle.choices.specs.declared.Stepped.{Stepped}
 use Rattle.choices.specs.declared.Listing.{Listing}
-use Rattle.choices.specs.Answers.{startWalk, stepAnswer, listAnswer, listLeaves, stepBy, listBy, leavesBy}
+use Rattle.choices.proofs.Walk.start.Reads as started
+use Rattle.choices.proofs.Walk.step.Reads as stepped
+use Rattle.choices.proofs.Walk.step_by.Reads as stepped-by
+use Rattle.choices.proofs.list.Reads as listed
+use Rattle.choices.proofs.list_by.Reads as listed-by
 
-pub Walk-start-unique : (a b : Walk) → a ≡ startWalk → b ≡ startWalk → a ≡ b
-Walk-start-unique a b = both
+-- of two answers that are each one value beside one content
+pub both-parts : {A B : Type 0} {a b x : A} {c d y : B} → (a ≡ x) × (c ≡ y) → (b ≡ x) × (d ≡ y) → (a ≡ b) × (c ≡ d)
+both-parts p q = (both (p .0) (q .0), both (p .1) (q .1))
 
-pub Walk-step-unique : (t : Table) (w : Walk) (a b : Stepped) → a ≡ stepAnswer t w → b ≡ stepAnswer t w → a ≡ b
-Walk-step-unique t w a b = both
+pub Walk-start-unique : (args : _) (a b : Walk) (s : _) → started.Learnt tt args a s → started.Learnt tt args b s → a ≡ b
+Walk-start-unique args a b s = both
 
-pub list-unique : (t : Table) (out : List ℕ) (a b : Listing) (left left′ : List ℕ)
-    → (a ≡ listAnswer t out) × (left ≡ listLeaves t out) → (b ≡ listAnswer t out) × (left′ ≡ listLeaves t out) → (a ≡ b) × (left ≡ left′)
-list-unique t out a b left left′ p q = (both (p .0) (q .0), both (p .1) (q .1))
+pub Walk-step-unique : (args : _) (a b : Stepped) (s : _) → stepped.Learnt tt args a s → stepped.Learnt tt args b s → a ≡ b
+Walk-step-unique args a b s = both
 
-pub Walk-step-by-unique : (t : Table) (rule : Rule) (w : Walk) (a b : Stepped) → a ≡ stepBy rule t w → b ≡ stepBy rule t w → a ≡ b
-Walk-step-by-unique t rule w a b = both
+pub Walk-step-by-unique : (args : _) (a b : Stepped) (s : _) → stepped-by.Learnt tt args a s → stepped-by.Learnt tt args b s → a ≡ b
+Walk-step-by-unique args a b s = both
 
-pub list-by-unique : (t : Table) (rule : Rule) (out : List ℕ) (a b : Listing) (left left′ : List ℕ)
-    → (a ≡ listBy rule t out) × (left ≡ leavesBy rule t out) → (b ≡ listBy rule t out) × (left′ ≡ leavesBy rule t out) → (a ≡ b) × (left ≡ left′)
-list-by-unique t rule out a b left left′ p q = (both (p .0) (q .0), both (p .1) (q .1))
+pub list-unique : (κs : Lfts 1) (args : _) (a b : Listing) (s u : _) → listed.Learnt κs args a s → listed.Learnt κs args b u → (a ≡ b) × (s .1 .0 .now ≡ u .1 .0 .now)
+list-unique κs args a b s u = both-parts
+
+pub list-by-unique : (κs : Lfts 1) (args : _) (a b : Listing) (s u : _) → listed-by.Learnt κs args a s → listed-by.Learnt κs args b u → (a ≡ b) × (s .1 .0 .now ≡ u .1 .0 .now)
+list-by-unique κs args a b s u = both-parts

@@ -53,5 +53,5 @@ pub fn none_holds(table: Table, rule: Rule) -> bool
     if table.count <= FEW_RECORDS {
         return false;
     }
-    analysis::is_hopeless(table)
+    analysis::is_hopeless(table).yes
 }

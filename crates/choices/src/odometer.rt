@@ -15,8 +15,8 @@ use analysis::Bounds;
 use analysis::Rule;
 use sheet::Table;
 
-// How many choices are looked at by climbing before bounds are found.
-const FEW: u8 = 8;
+// How many choices are looked at by their times before bounds are found.
+const FEW: u8 = 2;
 
 // The priorities of a table's records, 0 past the count.
 fn levels_of(table: Table) -> [u8; 8]
@@ -113,6 +113,7 @@ pub fn no_bounds() -> Bounds
     ensures { λ r. ⌜ r .count ≡ 0 ⌝ }
 {
     Bounds {
+        refusal: 0,
         count: 0,
         priorities: [0u8; 8],
         backups: [0u16; 8],
@@ -120,15 +121,15 @@ pub fn no_bounds() -> Bounds
     }
 }
 
-// Whether a choice holds by a rule: by the bounds where they are known, else by climbing.
+// Whether a choice holds by a rule: by the bounds where they are known, else by its times.
 fn holds(table: Table, bounds: Bounds, choice: [u8; 8], rule: Rule) -> bool
     requires { ⌜ (ruleRefusal rule table ≡ 0) × (Knows rule table bounds) × (allAllowed (levelsOf table) choice ≡ true) ⌝ }
     ensures { λ r. ⌜ r ≡ holds rule (tasksOf table (table .interval) choice) ⌝ }
 {
     if bounds.count != 0 {
-        return analysis::holds_within(bounds, choice, rule);
+        return analysis::holds_within(bounds, choice, rule).yes;
     }
-    analysis::holds(table, choice, rule)
+    analysis::assess_choice_by(table, choice, rule).passes
 }
 
 // One less, down to 0.
@@ -143,7 +144,7 @@ fn ends(table: Table, bounds: Bounds, left: u8, rule: Rule) -> bool
 {
     if left == 0 {
         if bounds.count == 0 {
-            return analysis::is_hopeless(table);
+            return analysis::is_hopeless(table).yes;
         }
     }
     false
@@ -162,7 +163,7 @@ fn sought(table: Table, bounds: Bounds, left: u8, rule: Rule) -> Bounds
     bounds
 }
 
-// The first choice after a start that holds by a rule. Where no bounds are known a few choices are looked at by climbing first, so that one found at once does not pay for bounds.
+// The first choice after a start that holds by a rule. Where no bounds are known a few choices are looked at by their times first, so that one found at once does not pay for bounds.
 pub fn advance(table: Table, bounds: Bounds, start: [u8; 8], rule: Rule) -> Found
     requires { ⌜ (ruleRefusal rule table ≡ 0) × ((allZero start || allAllowed (levelsOf table) start) ≡ true) × (Knows rule table bounds) ⌝ }
     ensures { λ r. ⌜ r ≡ foundIn start (afterOf start (chosen (holds rule) table)) ⌝ }

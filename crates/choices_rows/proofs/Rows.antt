@@ -1,9 +1,12 @@
--- The starred rows of document 01, 1 to 8 and 20, as documents 02's requests 2 and 3 have them, and rows in which every field and every term matters, as one table under one statement, by computation. Assumes nothing.
-use Prim.Native.Nat.{ℕ, zero, suc, _+_, _*_}
-use mathlib.Core.Path.{_≡_, refl}
+-- The starred rows of document 01, 1 to 8 and 20, as documents 02's requests 2 and 3 have them, and rows in which every field and every term matters, the share of request 6 among them, as one table under one statement, by computation. Assumes nothing.
+use Prim.Native.Nat.{ℕ, zero, suc, _+_, _*_, _≤_, _<_}
+use mathlib.Core.Path.{_≡_, refl, sym, _∙_}
+use mathlib.Core.Bool.{Bool, true, false, true≢false}
 use mathlib.Core.List.{List, [], _∷_, _++_}
 use lib.IntN.{pos, negℤ}
 use lib.ListN.{length}
+use native.Mathlib.Omega.{arith}
+use Rattle.sheet.specs.declared.Table.{Table}
 use Rattle.sheet.specs.Places.{filledBelow, someBelow}
 use Rattle.sheet.specs.Packing.{regrouped}
 use Rattle.sheet.specs.Layout.{headerOf, countOf, editionOf, intervalOf, roundOf, shareOf, startOf, partOf, recordFrom, recordOf, sheetRecord, recordAt, room, tableOf}
@@ -12,15 +15,16 @@ use Rattle.analysis.specs.declared.Slack.the-variants.{Figure, NoFigure}
 use Rattle.analysis.specs.declared.Entry.{Entry}
 use Rattle.analysis.specs.Rounding.{up}
 use Rattle.analysis.specs.Totals.{sumBelow, mostBelow}
-use Rattle.analysis.specs.Tasks.{faultAt, ownChoice}
+use Rattle.analysis.specs.Tasks.{tasksOf, faultAt, ownChoice}
 use Rattle.analysis.specs.Backups.{others, everyone, backupOf, largestBackup, backupElsewhere, backupFromFault}
 use Rattle.analysis.specs.Equations.{supplierOf, isBetween, struckElsewhere, struckItself}
 use Rattle.analysis.specs.Search.{firstFrom, leastWithin}
 use Rattle.analysis.specs.Response.{timeElsewhere, timeItself, responseWithin, responseTime, isLate, passes}
-use Rattle.analysis.specs.Answers.{outcomeOf, slackOf, entryFrom, entryOf, ownTasks}
+use Rattle.analysis.specs.Answers.{outcomeOf, slackOf, entryFrom, entryOf, ownTasks, leastInterval}
 use Rattle.analysis.specs.Allowed.{levelsOf}
 use Rattle.choices.specs.Choices.{inRow, entriesFor, spread, choicesOf, sift, chosen, passingOf}
 use Rattle.choices.specs.Order.{before, afterOf}
+use Rattle.analysis.proofs.Halving.{passing-kept, halved-found}
 
 -- Sheet A with an interval, and with the last byte of each record, which holds priority and fault priority
 unfoldable pub sheetA : ℕ → ℕ → ℕ → ℕ → List ℕ
@@ -43,6 +47,30 @@ together (r ∷ rs) = r ++ together rs
 -- the sheet of an interval and records
 unfoldable pub sheet : ℕ → List (List ℕ) → List ℕ
 sheet interval records = (length records * 16) ∷ 0 ∷ interval ∷ together records
+
+-- the sheet of the second edition of an interval, a round, our share of it and records
+unfoldable pub sharedSheet : ℕ → ℕ → ℕ → List (List ℕ) → List ℕ
+sharedSheet interval round share records = (length records * 16 + 1) ∷ 0 ∷ interval ∷ 0 ∷ round ∷ 0 ∷ share ∷ together records
+
+-- a sheet in which times, lateness, list, walk and least interval all depend on the round and on the share
+unfoldable pub radio : List ℕ
+radio = sharedSheet 43 19 10 (task 2 5 50 82 3 1 ∷ task 7 1 51 87 2 2 ∷ task 5 2 43 51 1 1 ∷ [])
+
+-- the least interval, where a table passes at one and not at the one before it: passing is kept when the interval grows
+pub least-next : (t : Table) (fails : ℕ) → 1 ≤ fails → fails < 65535 → passes (tasksOf t fails (ownChoice t)) ≡ false → passes (tasksOf t (suc fails) (ownChoice t)) ≡ true → leastInterval t ≡ suc fails
+unfolding leastInterval
+least-next t fails some few failing passing =
+    halved-found test 65535 fails (suc fails)
+    (record { apart = (some, omega arith, omega arith); below = λ k low high. go k low high (test k) refl; above = λ h. passing })
+    (omega arith)
+    (omega arith)
+  where
+    test : ℕ → Bool
+    test interval = passes (tasksOf t interval (ownChoice t))
+
+    go : (k : ℕ) → 1 ≤ k → k < suc fails → (b : Bool) → test k ≡ b → test k ≡ false
+    go k low high false e = e
+    go k low high true e = absurd (true≢false (sym (passing-kept t (ownChoice t) k fails low (omega arith) e) ∙ failing))
 
 -- three entries as a choice
 unfoldable pub choice : ℕ → ℕ → ℕ → List ℕ
@@ -74,12 +102,14 @@ pub data Row : Type 0 where
   responses : List ℕ → List Entry → Row
   listed : List ℕ → List (List ℕ) → Row
   after : List ℕ → List ℕ → List (List ℕ) → Row
+  least : List ℕ → ℕ → Row
 
 -- the answer is the one that the definitions give
 abbrev pub Holds : Row → Type 0
 Holds (responses sheet answer) = times sheet ≡ answer
 Holds (listed sheet answer) = passingOf (tableOf sheet) ≡ answer
 Holds (after sheet start answer) = afterOf start (passingOf (tableOf sheet)) ≡ answer
+Holds (least sheet answer) = leastInterval (tableOf sheet) ≡ answer
 
 pub data All : List Row → Type 0 where
   none : All []
@@ -115,13 +145,19 @@ rows =
     responses (sheet 14 (task 3 2 11 24 2 1 ∷ task 4 3 13 29 3 2 ∷ task 2 5 7 26 1 1 ∷ task 3 7 29 40 4 2 ∷ [])) (lateBy 11 13 ∷ onTime 13 10 3 ∷ lateBy 7 33 ∷ onTime 29 25 4 ∷ []) ∷
     responses (sheet 17 (task 4 5 27 33 2 1 ∷ task 5 4 20 45 4 3 ∷ task 2 1 6 40 1 1 ∷ task 3 7 8 38 3 1 ∷ [])) (onTime 27 17 10 ∷ onTime 20 9 11 ∷ lateBy 6 22 ∷ lateBy 8 22 ∷ []) ∷
     responses (sheet 14 (task 2 5 25 39 1 1 ∷ task 4 5 5 42 2 1 ∷ task 4 6 27 32 3 1 ∷ [])) (onTime 25 22 3 ∷ lateBy 5 8 ∷ onTime 27 24 3 ∷ []) ∷
+    -- a shared processor
+    responses radio (lateBy 50 3 ∷ onTime 51 19 32 ∷ onTime 43 37 6 ∷ []) ∷
+    responses (sharedSheet 55 11 6 (task 4 7 10 75 3 3 ∷ task 3 3 33 65 2 2 ∷ task 1 1 35 35 1 1 ∷ [])) (lateBy 10 11 ∷ onTime 33 29 4 ∷ onTime 35 30 5 ∷ []) ∷
+    listed radio (choice 2 1 1 ∷ choice 2 2 1 ∷ choice 3 1 1 ∷ choice 3 2 1 ∷ []) ∷
+    after radio (choice 2 2 1) (choice 3 1 1 ∷ choice 3 2 1 ∷ []) ∷
+    least radio 48 ∷
     []
 
 pub rows-hold : All rows
-unfolding rows times choice sheetA lone task together sheet
+unfolding rows times choice sheetA lone task together sheet sharedSheet radio
     headerOf countOf editionOf intervalOf roundOf shareOf startOf partOf recordFrom recordOf sheetRecord recordAt room tableOf regrouped filledBelow someBelow
     up sumBelow mostBelow faultAt ownChoice others everyone backupOf largestBackup backupElsewhere backupFromFault
     isBetween supplierOf struckElsewhere struckItself firstFrom leastWithin timeElsewhere timeItself responseWithin responseTime isLate passes
     outcomeOf slackOf entryFrom entryOf entriesBelow onTime lateBy lateBeyond
     levelsOf inRow entriesFor spread choicesOf sift chosen passingOf before afterOf
-rows-hold = one refl (one refl (one refl (one refl (one refl (one refl (one refl (one refl (one refl (one refl (one refl (one refl (one refl (one refl (one refl (one refl (one refl (one refl (one refl (one refl (one refl (one refl (one refl (one refl none)))))))))))))))))))))))
+rows-hold = one refl (one refl (one refl (one refl (one refl (one refl (one refl (one refl (one refl (one refl (one refl (one refl (one refl (one refl (one refl (one refl (one refl (one refl (one refl (one refl (one refl (one refl (one refl (one refl (one refl (one refl (one refl (one refl (one (least-next (tableOf radio) 47 (omega arith) (omega arith) refl refl) none))))))))))))))))))))))))))))

@@ -1,7 +1,9 @@
 // Inputs: a file that is opened by its name, or standard input, whose name is `-`. End, data and error are told apart. A read that a
 // signal cut off is tried again, and any other error is one.
 // A proved loop has to end, so where no buffer fills the turns count down, from a number that no input uses up.
+ghost use mathlib.Core.Path.{_≡_};
 ghost use Rattle.io.specs.Counts.{Counts};
+ghost use Rattle.console.specs.Inputs.{isDash};
 use libc::STDERR_FILENO;
 use libc::STDIN_FILENO;
 
@@ -27,7 +29,9 @@ pub fn name(place: usize, buffer: &mut [u8]) -> usize
 }
 
 // Whether a name is that of standard input, or of standard output.
-pub fn is_standard(name: &[u8]) -> bool {
+pub fn is_standard(name: &[u8]) -> bool
+    ensures { λ r. ⌜ r ≡ isDash (now (name .entry)) ⌝ }
+{
     check::same(name, b"-")
 }
 

@@ -1,15 +1,18 @@
 // A text read in pieces of one buffer, whatever its length.
+use crate::files;
+use crate::files::File;
 use crate::input;
 use text::Scan;
 
-// A text as far as it was read, and whether it was to its end.
+// A text as far as it was read, whether it was to its end, and the file that it was read from.
 pub struct Scanned {
     pub scan: Scan,
     pub is_read: bool,
+    pub source: File,
 }
 
-// Takes every piece of an opened text.
-fn take(opened: i32) -> Scanned {
+// Takes every piece of a text that was opened as a file.
+fn take(opened: i32, source: File) -> Scanned {
     let mut buffer = io::large_buffer();
     let mut scan = Scan::start();
     let mut turns = u64::MAX;
@@ -19,6 +22,7 @@ fn take(opened: i32) -> Scanned {
             return Scanned {
                 scan,
                 is_read: got == 0,
+                source,
             };
         }
         let held = io::count(got, &buffer);
@@ -28,6 +32,7 @@ fn take(opened: i32) -> Scanned {
     Scanned {
         scan,
         is_read: false,
+        source,
     }
 }
 
@@ -36,13 +41,15 @@ pub fn read(place: usize) -> Scanned {
     let mut name = io::buffer();
     let length = input::name(place, &mut name);
     let opened = input::open(&name[..length]);
+    let source = files::identity(opened);
     if opened < 0 {
         return Scanned {
             scan: Scan::start(),
             is_read: false,
+            source,
         };
     }
-    let read = take(opened);
+    let read = take(opened, source);
     if !read.is_read {
         input::say_why(&name[..length]);
     }

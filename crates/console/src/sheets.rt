@@ -1,5 +1,7 @@
 // A sheet from an input. 80 bytes decide any input that is longer than a sheet can be, so the rest is read and dropped.
+ghost use mathlib.Core.Path.{_≡_};
 ghost use Rattle.io.specs.Counts.{Counts};
+ghost use Rattle.console.specs.Inputs.{partOf, givenReading, givenTable};
 use crate::input;
 use crate::input::Filled;
 use sheet::Reading;
@@ -15,6 +17,7 @@ pub struct Given {
 // As many bytes as a length says, or all of them.
 pub fn part(length: usize, bytes: &[u8]) -> usize
     ensures { λ r. ⌜ Counts r (now (bytes .entry)) ⌝ }
+    ensures { λ r. ⌜ r ≡ partOf length (now (bytes .entry)) ⌝ }
 {
     if length < bytes.len() {
         length
@@ -75,17 +78,21 @@ pub fn read(place: usize) -> Given {
 }
 
 // The sheet's table, or its refusal.
-pub fn reading(given: Given) -> Reading {
+pub fn reading(given: Given) -> Reading
+    ensures { λ r. ⌜ r ≡ givenReading given ⌝ }
+{
     let bytes = given.bytes;
     let length = part(given.length, &bytes);
     sheet::read(&bytes[..length])
 }
 
 // The sheet's table as it stands, whatever rules its records break.
-pub fn unjudged(given: Given) -> Table {
+pub fn unjudged(given: Given) -> Table
+    ensures { λ r. ⌜ r ≡ givenTable given ⌝ }
+{
     let bytes = given.bytes;
-    let length = part(given.length, &bytes);
-    sheet::read_unjudged(&bytes[..length]).table
+    let end = part(given.length, &bytes);
+    sheet::read_unjudged(&bytes[..end]).table
 }
 
 // Whether two words are both the name of standard input, which can be read once.
@@ -94,7 +101,7 @@ pub fn are_both_standard(first: usize, second: usize) -> bool {
 }
 
 // Whether a word is the name of standard input.
-pub fn is_standard(place: usize) -> bool {
+fn is_standard(place: usize) -> bool {
     let mut name = io::buffer();
     let length = input::name(place, &mut name);
     input::is_standard(&name[..length])

@@ -1,4 +1,7 @@
 // How a command ends, in the statuses of the run command, and how the program is asked for it.
+ghost use mathlib.Core.Path.{_≡_};
+ghost use Rattle.console.specs.Endings.{firstPlace, endsIn};
+
 // The sheet passes, the record is accepted, nothing is missed, what was looked for is found.
 pub const HOLDS: u8 = 0;
 
@@ -32,12 +35,16 @@ pub fn asked() -> u8 {
 }
 
 // The place of the first argument after that.
-pub fn first(word: u8) -> u8 {
+pub fn first(word: u8) -> u8
+    ensures { λ r. ⌜ r ≡ firstPlace word ⌝ }
+{
     if word == NOTHING { 1 } else { 2 }
 }
 
 // How a command ends by what it asks.
-pub fn of(holds: bool) -> u8 {
+pub fn of(holds: bool) -> u8
+    ensures { λ r. ⌜ r ≡ endsIn holds ⌝ }
+{
     if holds { HOLDS } else { FAILS }
 }
 

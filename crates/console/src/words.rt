@@ -1,4 +1,6 @@
 // The words that the program is given: where those of a command begin, how many there are, and what is said where they are wrong.
+ghost use mathlib.Core.Path.{_≡_};
+ghost use Rattle.console.specs.Endings.{wordPlace};
 use crate::standing;
 use libc::STDERR_FILENO;
 
@@ -20,7 +22,9 @@ pub fn count_from(first: u16) -> usize {
 }
 
 // The place of a word among the arguments.
-pub fn at(asked: Asked, which: u8) -> usize {
+pub fn at(asked: Asked, which: u8) -> usize
+    ensures { λ r. ⌜ r ≡ wordPlace asked which ⌝ }
+{
     asked.first as usize + which as usize
 }
 

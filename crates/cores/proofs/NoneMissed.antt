@@ -73,8 +73,7 @@ module _ (t : Table) (good : tableRefusal t ≡ 0) (test : ℕ → Bool) (n : �
   core-misses-none passing sheet log holds accepted =
       no-job-missed sheet log accepted
       (λ k low. let same = holds .task k (subst (λ (m : ℕ). k < m) (holds .count) low) in ap (λ (r : Record). r .«fault_priority») same ∙ sym (ap (λ (r : Record). r .priority) same))
-      true
-      (verdict-passes (tableOf sheet) (table-good sheet (sheet-passed sheet log accepted)) true ∙ core-passes t good test n few (tableOf sheet) holds ∙ passing)
+      (verdict-passes (tableOf sheet) (table-good sheet (sheet-passed sheet log accepted)) ∙ core-passes t good test n few (tableOf sheet) holds ∙ passing)
 
 -- "no job misses on any core": of a good table placed by first fit on any number of cores, each core's own sheet and log
 pub no-core-misses : (t : Table) → tableRefusal t ≡ 0 → (number core : ℕ) → 1 ≤ core → (sheet log : List ℕ) → Holds (coreTasks (ownTasks t) (demands.isOn (ownTasks t) number core) (t .count)) (tableOf sheet)

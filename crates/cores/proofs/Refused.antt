@@ -8,20 +8,22 @@ use native.Mathlib.Decide.{ℕ-discrete}
 use native.Mathlib.Omega.{arith}
 use borrow.Author.Tests.{eqb-true, eqb-false}
 use lib.Dec.{eqb}
-use lib.ListN.{replicate}
+use lib.ListN.{length, getD, replicate}
 use Rattle.sheet.specs.Layout.{tableOf}
 use Rattle.sheet.specs.Rules.{outside, sheetRefusal}
 use Rattle.sheet.specs.Broken.{Outside}
 use Rattle.sheet.proofs.Order.{sheet-in-order}
 use Rattle.sheet.proofs.Refused.{given-unless}
 use Rattle.sheet.proofs.Tells.{Tells, holds, fails, outside-tells}
-use Rattle.sheet.proofs.Turns.{next-of, first-of}
+use Rattle.sheet.proofs.Agree.{filled-at}
+use Rattle.sheet.proofs.Turns.{next-of, first-of, length-filled}
+use Rattle.analysis.proofs.Choice.{alike-at, filled-past}
 use Rattle.analysis.specs.Tasks.{Tasks}
 use Rattle.replay.specs.Rules.{startRefusal, sharedRefusal}
 use Rattle.replay.proofs.Order.{start-in-order, whole-tells}
 use Rattle.cores.specs.declared.Placing.{Placing}
 use Rattle.cores.specs.declared.Fit.the-variants.{Refused, Everyone, FitsNone}
-use Rattle.cores.specs.FirstFit.{fitsNone}
+use Rattle.cores.specs.FirstFit.{coreOf, fitsNone}
 use Rattle.cores.specs.Answers.{numberRefusal, boxRefusal, coresOf, placingOf}
 
 module _ (refusal : ℕ) (s : Tasks) (number : ℕ) where
@@ -40,6 +42,15 @@ module _ (refusal : ℕ) (s : Tasks) (number : ℕ) where
       go true true is fits e = (is refl, fits refl, refl)
       go true false is fits e = let z : _≡_ {A = ℕ} 0 1 = cc in absurd (omega arith)
       go false b is fits e = let z : _≡_ {A = ℕ} 0 1 = cc in absurd (omega arith)
+
+  -- those of a table of up to eight records stand in record order, in room for eight, and past the count there are zeros
+  pub cores-placed : s .count ≤ 8 → (length (coresOf s number) ≡ 8) × ((k : ℕ) → k < s .count → getD (coresOf s number) k 0 ≡ coreOf s number k) × ((k : ℕ) → s .count ≤ k → getD (coresOf s number) k 0 ≡ 0)
+  unfolding coresOf
+  cores-placed few = (
+    length-filled (coreOf s number) (s .count) (replicate 8 0),
+    λ k below. filled-at (coreOf s number) (s .count) (replicate 8 0) 0 few k below,
+    λ k past. filled-past (coreOf s number) (s .count) (replicate 8 0) 0 k past ∙ alike-at 0 8 k,
+  )
 
   -- a record that fits none: nothing is refused, it is the first, and no cores are given
   pub none-told : (first : ℕ) → answer .fit ≡ FitsNone first → (refusal ≡ 0) × (fitsNone s number ≡ first) × (1 ≤ first) × (answer .cores ≡ replicate 8 0)

@@ -55,9 +55,9 @@ holds-passes s t holds few raised =
     })
 
 -- the verdict on a good table is whether its tasks pass
-pub verdict-passes : (t : Table) → tableRefusal t ≡ 0 → (withTimes : Bool) → ownAssessment t withTimes .passes ≡ passes (ownTasks t)
+pub verdict-passes : (t : Table) → tableRefusal t ≡ 0 → ownAssessment t .passes ≡ passes (ownTasks t)
 unfolding ownAssessment
-verdict-passes t good withTimes = assessed-verdict t (ownChoice t) (own-refusal t ∙ good) withTimes .1
+verdict-passes t good = assessed-verdict t (ownChoice t) (own-refusal t ∙ good) .1
 
 -- A good table's records below n that a test holds at, at least one
 module _ (t : Table) (good : tableRefusal t ≡ 0) (test : ℕ → Bool) (n : ℕ) (few : n ≤ t .count) where
@@ -118,7 +118,7 @@ module _ (t : Table) (good : tableRefusal t ≡ 0) (cores : ℕ → ℕ) (place 
       omega (arith, found .1)
 
   -- so the verdict on its table is whether its tasks still pass
-  pub tried-passes : (tried : Table) → Tried t cores place core tried → ownAssessment tried false .passes ≡ stillPass (ownTasks t) cores place core
+  pub tried-passes : (tried : Table) → Tried t cores place core tried → ownAssessment tried .passes ≡ stillPass (ownTasks t) cores place core
   unfolding stillPass
   tried-passes tried holds =
-      verdict-passes tried (core-good t good (joins cores place core) (suc place) below tried-some tried holds) false ∙ core-passes t good (joins cores place core) (suc place) below tried holds
+      verdict-passes tried (core-good t good (joins cores place core) (suc place) below tried-some tried holds) ∙ core-passes t good (joins cores place core) (suc place) below tried holds

@@ -1,10 +1,9 @@
--- The public call's promise leaves one answer: any two that it admits are equal. Assumes nothing.
-use Prim.Native.Nat.{ℕ}
+-- The public call's contract leaves one answer: any two that its own reading admits are equal. Assumes nothing.
 use mathlib.Core.Path.{_≡_}
-use mathlib.Core.List.{List}
+use contract.Lifetimes.{Lfts}
 use Rattle.sheet.proofs.Unique.{both}
 use Rattle.cores.specs.declared.Placing.{Placing}
-use Rattle.cores.specs.Answers.{placingAnswer}
+use Rattle.cores.proofs.place.Reads as placed
 
-pub place-unique : (sheet : List ℕ) (number : ℕ) (a b : Placing) → a ≡ placingAnswer sheet number → b ≡ placingAnswer sheet number → a ≡ b
-place-unique sheet number a b = both
+pub place-unique : (κs : Lfts 1) (args : _) (a b : Placing) (s : _) → placed.Learnt κs args a s → placed.Learnt κs args b s → a ≡ b
+place-unique κs args a b s = both

@@ -16,7 +16,7 @@ fn still_pass(table: Table, cores: [u8; 8], place: usize, core: u8) -> bool
     requires { ⌜ (tableRefusal table ≡ 0) × (place < table .count) ⌝ }
     ensures { λ r. ⌜ r ≡ stillPass (ownTasks table) (λ k. getD cores k 0) place core ⌝ }
 {
-    let assessment = analysis::assess(tables::table_with(table, cores, place, core), false);
+    let assessment = analysis::assess(tables::table_with(table, cores, place, core));
     assessment.passes
 }
 

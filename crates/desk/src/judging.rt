@@ -1,18 +1,33 @@
 // `judge`: what document 01 says of a sheet, its times and then its choices.
 use crate::passing;
 use crate::responses;
+use analysis::Rule;
+use console::explanation;
 use console::output;
 use console::refusals;
 use console::sheets;
 use console::standing;
 use sheet::Table;
 
+// Says where a passing sheet's own choice is not assured. Of a shared processor nothing is assured, and nothing is said.
+fn warn(table: Table) {
+    let assured = analysis::assess_by(table, Rule::Low);
+    if (assured.refusal == 0) & !assured.passes {
+        explanation::say(
+            b"desk: the sheet passes by the published equations, but its own fault priorities are not assured: a job may still miss (./desk assured)\n",
+        );
+    }
+}
+
 // Prints the answer to a good sheet.
-fn answer(table: Table) -> u8 {
-    let assessment = analysis::assess(table, true);
+fn answer(table: Table, is_explained: bool) -> u8 {
+    let assessment = analysis::assess(table);
     let entries = assessment.entries;
     if responses::print(table, entries) {
         if passing::print(table) {
+            if is_explained & assessment.passes {
+                warn(table);
+            }
             return standing::of(assessment.passes);
         }
     }
@@ -30,5 +45,5 @@ pub fn run(place: usize, is_explained: bool) -> u8 {
         return refusals::print_of(given, reading.refusal, is_explained);
     }
     let table = reading.table;
-    answer(table)
+    answer(table, is_explained)
 }

@@ -9,6 +9,7 @@ use console::standing;
 use console::words;
 use console::words::Asked;
 use libc::STDERR_FILENO;
+use libc::STDOUT_FILENO;
 use mend::Change;
 use mend::Changes;
 
@@ -31,7 +32,16 @@ fn print(descriptor: i32, changes: Changes) -> bool {
     output::write_on(descriptor, &buffer, end)
 }
 
-// Mends a sheet of bytes and writes it where the second word says. Where that is standard output, the changes go to standard error.
+// Prints the changes. Where the sheet goes to standard output, they go to standard error.
+fn is_told(place: usize, changes: Changes) -> bool {
+    if saving::is_output(place) {
+        print(STDERR_FILENO, changes);
+        return true;
+    }
+    print(STDOUT_FILENO, changes)
+}
+
+// Mends a sheet of bytes and writes it where the second word says, once its changes are told.
 fn answer(asked: Asked, sheet: &[u8]) -> u8 {
     let mut out = [0u8; 80];
     let mending = mend::mend(sheet, &mut out);
@@ -39,16 +49,15 @@ fn answer(asked: Asked, sheet: &[u8]) -> u8 {
         return refusals::print(mending.refusal, asked.is_explained);
     }
     let place = words::at(asked, 1);
-    let written = sheets::part(mending.written, &out);
-    if !saving::save(place, &out[..written]) {
-        return standing::TROUBLE;
-    }
     let changes = mending.changes;
-    if sheets::is_standard(place) {
-        print(STDERR_FILENO, changes);
+    if !is_told(place, changes) {
+        return output::failed();
+    }
+    let written = sheets::part(mending.written, &out);
+    if saving::save(place, &out[..written]) {
         return standing::HOLDS;
     }
-    output::ended(print(libc::STDOUT_FILENO, changes), standing::HOLDS)
+    standing::TROUBLE
 }
 
 // Says that an input is too long for a sheet typed by hand.

@@ -1,4 +1,5 @@
 // `write`: a sheet from a text. `show`: the text of a sheet.
+use console::files::File;
 use console::output;
 use console::refusals;
 use console::saving;
@@ -26,12 +27,12 @@ fn refused(scan: Scan, understood: Understood, is_explained: bool) -> u8 {
     refusals::print_at(refusal, understood.line, understood.column, is_explained)
 }
 
-// Writes the sheet of a good table where the second word says.
-fn save(asked: Asked, table: Table) -> u8 {
+// Writes the sheet of a good table where the second word says, which is not the file of its text.
+fn save(asked: Asked, table: Table, source: File) -> u8 {
     let mut out = [0u8; 80];
     let writing = sheet::write(table, &mut out);
     let written = sheets::part(writing.written, &out);
-    if saving::save(words::at(asked, 1), &out[..written]) {
+    if saving::save_apart(words::at(asked, 1), &out[..written], source) {
         return standing::HOLDS;
     }
     standing::TROUBLE
@@ -41,6 +42,9 @@ fn save(asked: Asked, table: Table) -> u8 {
 pub fn write(asked: Asked) -> u8 {
     if asked.count != 2 {
         return words::trouble(b"write takes two words, TEXT and OUT");
+    }
+    if saving::are_one(words::at(asked, 0), words::at(asked, 1)) {
+        return saving::say_lost();
     }
     let read = scanning::read(words::at(asked, 0));
     if !read.is_read {
@@ -52,7 +56,8 @@ pub fn write(asked: Asked) -> u8 {
         return refused(scan, understood, asked.is_explained);
     }
     let table = understood.table;
-    save(asked, table)
+    let source = read.source;
+    save(asked, table, source)
 }
 
 // Prints the text of the sheet that the one word names.

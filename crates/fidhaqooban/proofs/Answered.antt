@@ -25,7 +25,7 @@ use Rattle.analysis.specs.declared.Assessment.{Assessment}
 use Rattle.analysis.specs.declared.Interval.{Interval}
 use Rattle.analysis.specs.declared.Interval.the-variants.{Refused, Least, Nothing}
 use Rattle.analysis.specs.Response.{passes}
-use Rattle.analysis.specs.Answers.{ownTasks, entryOf, timedRefusal, timedAnswer, assessmentOf, choiceAssessment, ownAssessment, leastInterval, leastOf, intervalAnswer}
+use Rattle.analysis.specs.Answers.{ownTasks, entryOf, timedRefusal, timedAnswer, assessed, choiceAssessment, ownAssessment, leastInterval, leastOf, intervalAnswer}
 use Rattle.fidhaqooban.specs.Numbers.{answerOf, timeOf}
 use Rattle.analysis.proofs.Choice.{own-refusal}
 use Rattle.fidhaqooban.specs.Answers.{responseNumber, verdictNumber, intervalNumber}
@@ -114,10 +114,10 @@ module _ (s : List ℕ) (reading : Reading) (e : reading ≡ readAnswer s) (left
         answered (timed .refusal) _ _ (λ fine. ap (λ (x : Entry). timeOf (x .outcome)) (timed-entry fine))
         ∙ ap (λ (r : ℕ). answerOf r (timeOf (entryOf (ownTasks (tableOf s)) place .outcome))) timed-refused
 
-  pub verdict-is : (assessed : Assessment) → assessed ≡ ownAssessment (reading .table) false → answerOf (assessed .refusal) (cond (assessed .passes) 1 0) ≡ verdictNumber s
-  unfolding ownAssessment choiceAssessment assessmentOf verdictNumber
-  verdict-is assessed given =
-      ap (λ (a : Assessment). answerOf (a .refusal) (cond (a .passes) 1 0)) (given ∙ ap (λ (t : Table). ownAssessment t false) (table-read s reading e left))
+  pub verdict-is : (answer : Assessment) → answer ≡ ownAssessment (reading .table) → answerOf (answer .refusal) (cond (answer .passes) 1 0) ≡ verdictNumber s
+  unfolding ownAssessment choiceAssessment assessed verdictNumber
+  verdict-is answer given =
+      ap (λ (a : Assessment). answerOf (a .refusal) (cond (a .passes) 1 0)) (given ∙ ap ownAssessment (table-read s reading e left))
       ∙ simp (own-refusal (tableOf s), good-table-read, good-read s reading e left)
 
   pub interval-is : (interval : Interval) → interval ≡ intervalAnswer (reading .table) → intervalAnswered interval ≡ intervalNumber s

@@ -3,6 +3,7 @@ pub mod Minus
 pub mod Fields
 pub mod Answered
 pub mod Slacked
+pub mod Timed
 pub mod Replayed
 pub mod Checked
 pub mod Lent

@@ -1,11 +1,11 @@
 -- What each function answers, as a number of C, and what it leaves in the lent output.
-use Prim.Native.Nat.{ℕ, _+_, _*_}
+use Prim.Native.Nat.{ℕ, _+_, _*_, _/_, _%_}
 use mathlib.Core.Bool.{cond, _&&_, _||_}
 use mathlib.Core.List.{List, [], _∷_, _++_}
 use lib.Dec.{eqb, ltb}
 use lib.IntN.{ℤ}
 use lib.ListN.{length, take, drop}
-use Rattle.sheet.specs.Places.{orElse}
+use Rattle.sheet.specs.Places.{orElse, filledBelow}
 use Rattle.sheet.specs.Layout.{countOf, tableSize, startOf, tableOf}
 use Rattle.sheet.specs.Rules.{sheetRefusal}
 use Rattle.sheet.specs.Answers.{writeRefusal, writeLeaves, placeRefusal}
@@ -25,7 +25,7 @@ use Rattle.mend.specs.Changes.{changesOf}
 use Rattle.cores.specs.FirstFit.{fitsNone}
 use Rattle.cores.specs.Answers.{boxRefusal, coresOf}
 use Rattle.release.specs.Answers.{decision}
-use Rattle.fidhaqooban.specs.Numbers.{answerOf, givenTable, timeOf, figuresOf, figureIn, entriesOf, choiceOf, countNumbers, changesNumbers}
+use Rattle.fidhaqooban.specs.Numbers.{answerOf, givenTable, timeOf, figuresOf, entryNumber, figureIn, entriesOf, choiceOf, countNumbers, changesNumbers}
 
 -- `fq_write_shared`: "bytes written"
 unfoldable pub writeSharedNumber : ℕ → ℕ → ℕ → ℕ → List ℕ → List ℕ → ℤ
@@ -78,6 +78,18 @@ slackLeft sheet place out = cond (eqb (slackRefusal sheet place out) 0) (figureI
 -- `fq_verdict`: "1 passes, 0 does not"
 unfoldable pub verdictNumber : List ℕ → ℤ
 verdictNumber sheet = answerOf (sheetRefusal sheet) (cond (passes (ownTasks (tableOf sheet))) 1 0)
+
+-- the refusal of `fq_times`: the sheet's, then 11, where the output has no room for three numbers for each record
+unfoldable pub timesRefusal : List ℕ → List ℤ → ℕ
+timesRefusal sheet out = orElse (sheetRefusal sheet) (cond (ltb (length out) (3 * countOf sheet)) 11 0)
+
+-- `fq_times`: "1 where the sheet passes, 0 where not"
+unfoldable pub timesNumber : List ℕ → List ℤ → ℤ
+timesNumber sheet out = answerOf (timesRefusal sheet out) (cond (passes (ownTasks (tableOf sheet))) 1 0)
+
+-- what it leaves in the output: "three numbers for each record" and then the numbers as they were, or all as it was
+unfoldable pub timesLeft : List ℕ → List ℤ → List ℤ
+timesLeft sheet out = cond (eqb (timesRefusal sheet out) 0) (filledBelow (λ k. entryNumber (entryOf (ownTasks (tableOf sheet)) (k / 3)) (k % 3)) (3 * countOf sheet) out) out
 
 -- `fq_least_interval`: "the interval; 0 none"
 unfoldable pub intervalNumber : List ℕ → ℤ

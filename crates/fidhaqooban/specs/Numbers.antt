@@ -15,6 +15,7 @@ use Rattle.mend.specs.Changes.{fieldNumber, noChange}
 use Rattle.replay.specs.declared.Counts.{Counts}
 use Rattle.analysis.specs.declared.Outcome.{Outcome}
 use Rattle.analysis.specs.declared.Outcome.the-variants.{OnTime, Late}
+use Rattle.analysis.specs.declared.Entry.{Entry}
 use Rattle.analysis.specs.declared.Slack.{Slack}
 use Rattle.analysis.specs.declared.Slack.the-variants.{Figure, NoFigure}
 
@@ -59,6 +60,15 @@ timeOf Late = 0
 unfoldable pub figuresOf : Slack → ℕ
 figuresOf (Figure ticks) = 1
 figuresOf NoFigure = 0
+
+-- a slack's ticks, 0 where it has no figure
+unfoldable pub ticksOf : Slack → ℤ
+ticksOf (Figure ticks) = ticks
+ticksOf NoFigure = pos 0
+
+-- an entry's three numbers: "its response time or 0 where it is late, 1 or 0 whether the slack has a figure, the slack or 0"
+unfoldable pub entryNumber : Entry → ℕ → ℤ
+entryNumber e number = cond (eqb number 0) (pos (timeOf (e .outcome))) (cond (eqb number 1) (pos (figuresOf (e .slack))) (ticksOf (e .slack)))
 
 -- an output with a slack's figure in its first place, or as it was where there is none
 unfoldable pub figureIn : Slack → List ℤ → List ℤ

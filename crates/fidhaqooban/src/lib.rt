@@ -2,7 +2,7 @@
 // Each function is thin: it reads the sheet, asks the crate that answers, and turns the answer into a number.
 ghost use mathlib.Core.Path.{_≡_};
 ghost use Rattle.sheet.specs.Rules.{sheetRefusal};
-ghost use Rattle.fidhaqooban.specs.Answers.{writeSharedNumber, writeSharedLeft, writeNumber, writeLeft, rewriteNumber, rewriteLeft, recordNumber, responseNumber, slackNumber, slackLeft, verdictNumber, intervalNumber, nextNumber, listNumber, listLeft, assuredNumber, assuredNextNumber, assuredListNumber, assuredListLeft, replayNumber, replayLeft, checkNumber, mendNumber, mendLeft, mendListed, coresNumber, coresLeft, releaseNumber};
+ghost use Rattle.fidhaqooban.specs.Answers.{writeSharedNumber, writeSharedLeft, writeNumber, writeLeft, rewriteNumber, rewriteLeft, recordNumber, responseNumber, slackNumber, slackLeft, verdictNumber, timesNumber, timesLeft, intervalNumber, nextNumber, listNumber, listLeft, assuredNumber, assuredNextNumber, assuredListNumber, assuredListLeft, replayNumber, replayLeft, checkNumber, mendNumber, mendLeft, mendListed, coresNumber, coresLeft, releaseNumber};
 ghost use Rattle.fidhaqooban.specs.Locking.{givenRequest, grantingOf, lockNumber, lockLeft};
 use analysis::Interval;
 use choices::Walk;
@@ -55,8 +55,8 @@ pub extern "C" fn fq_rewrite(sheet: &[u8], out: &mut [u8]) -> i64
         return numbers::answer(reading.refusal, 0);
     }
     let table = reading.table;
-    let writing = sheet::write(table, out);
-    numbers::answer(writing.refusal, writing.written)
+    let rewriting = sheet::write(table, out);
+    numbers::answer(rewriting.refusal, rewriting.written)
 }
 
 // Where the nine bytes of the record at a place start.
@@ -119,8 +119,28 @@ pub extern "C" fn fq_verdict(sheet: &[u8]) -> i64
         return numbers::answer(reading.refusal, 0);
     }
     let table = reading.table;
-    let assessment = analysis::assess(table, false);
+    let assessment = analysis::assess(table);
     numbers::answer(assessment.refusal, assessment.passes as usize)
+}
+
+// Puts each record's response time, whether its slack has a figure, and the slack into the output: 1 where the sheet passes, 0 where it does not.
+#[no_mangle]
+pub extern "C" fn fq_times(sheet: &[u8], out: &mut [i32]) -> i64
+    ensures { λ r. ⌜ (r ≡ timesNumber (now (sheet .entry)) (now (out .entry))) × (now (out .exit) ≡ timesLeft (now (sheet .entry)) (now (out .entry))) ⌝ }
+{
+    let reading = sheet::read(sheet);
+    if reading.refusal != 0 {
+        return numbers::answer(reading.refusal, 0);
+    }
+    let table = reading.table;
+    let count = table.count as usize;
+    if out.len() < 3 * count {
+        return numbers::answer(11, 0);
+    }
+    let assessed = analysis::assess(table);
+    let entries = assessed.entries;
+    numbers::put_entries(entries, count, out);
+    numbers::answer(assessed.refusal, assessed.passes as usize)
 }
 
 // The least interval at which the sheet passes, 0 where there is none.

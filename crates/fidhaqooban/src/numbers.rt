@@ -1,16 +1,20 @@
 // Tables, choices, times, counts and answers as the numbers of C.
 ghost use mathlib.Core.Path.{_≡_};
-ghost use Prim.Native.Nat.{_+_, _*_, _≤_, _<_, _^_};
-ghost use lib.ListN.{length, take, drop};
+ghost use Prim.Native.Nat.{_+_, _*_, _/_, _%_, _≤_, _<_, _^_};
+ghost use lib.IntN.{pos};
+ghost use lib.ListN.{length, getD, take, drop};
 ghost use lib.Seq.{sets};
 ghost use mathlib.Core.List.{_++_};
+ghost use Rattle.sheet.specs.Places.{filledBelow};
 ghost use Rattle.sheet.specs.Layout.{countOf, startOf};
 ghost use Rattle.sheet.specs.Rules.{sheetRefusal};
+ghost use Rattle.analysis.specs.Answers.{noEntry};
 ghost use Rattle.choices.specs.declared.Arrival.the-variants.{Passing};
 ghost use Rattle.choices.specs.Stepping.{small};
 ghost use Rattle.mend.specs.Changes.{fieldNumber};
 ghost use Rattle.fidhaqooban.specs.Answers.{arrivalAnswered};
-ghost use Rattle.fidhaqooban.specs.Numbers.{answerOf, numberAt, byteOf, givenRecord, tableFrom, givenTable, timeOf, figuresOf, figureIn, entriesOf, choiceOf, countNumbers, changeNumbers, changesFrom};
+ghost use Rattle.fidhaqooban.specs.Numbers.{answerOf, numberAt, byteOf, givenRecord, tableFrom, givenTable, timeOf, figuresOf, ticksOf, entryNumber, figureIn, entriesOf, choiceOf, countNumbers, changeNumbers, changesFrom};
+use analysis::Entry;
 use analysis::Outcome;
 use analysis::Slack;
 use choices::Arrival;
@@ -133,6 +137,61 @@ pub fn put_figure(slack: Slack, out: &mut [i32]) -> usize
             1
         }
         Slack::NoFigure => 0,
+    }
+}
+
+// An outcome's time as a signed number.
+fn time_number(outcome: Outcome) -> i32
+    ensures { λ r. ⌜ r ≡ pos (timeOf outcome) ⌝ }
+{
+    time_of(outcome) as i32
+}
+
+// How many figures a slack has, as a signed number.
+fn figure_number(slack: Slack) -> i32
+    ensures { λ r. ⌜ r ≡ pos (figuresOf slack) ⌝ }
+{
+    match slack {
+        Slack::Figure(_) => 1,
+        Slack::NoFigure => 0,
+    }
+}
+
+// A slack's ticks, 0 where it has no figure.
+fn ticks_of(slack: Slack) -> i32
+    ensures { λ r. ⌜ r ≡ ticksOf slack ⌝ }
+{
+    match slack {
+        Slack::Figure(ticks) => ticks,
+        Slack::NoFigure => 0,
+    }
+}
+
+// One of an entry's three numbers.
+fn entry_number(entry: Entry, number: usize) -> i32
+    ensures { λ r. ⌜ r ≡ entryNumber entry number ⌝ }
+{
+    if number == 0 {
+        let outcome = entry.outcome;
+        return time_number(outcome);
+    }
+    let slack = entry.slack;
+    if number == 1 {
+        return figure_number(slack);
+    }
+    ticks_of(slack)
+}
+
+// Puts three numbers for each of so many entries at the start of an output that has room.
+pub fn put_entries(entries: [Entry; 8], count: usize, out: &mut [i32])
+    requires { ⌜ (count ≤ 8) × (3 * count ≤ length (now out)) ⌝ }
+    ensures { λ _. ⌜ now (out .exit) ≡ filledBelow (λ k. entryNumber (getD entries (k / 3) noEntry) (k % 3)) (3 * count) (now (out .entry)) ⌝ }
+{
+    let end = 3 * count;
+    let mut at: usize = 0;
+    while at < end {
+        out[at] = entry_number(entries[at / 3], at % 3);
+        at += 1;
     }
 }
 

@@ -1,4 +1,4 @@
-// Locks beside fixed starts: whether a sporadic task may hold a resource without making a started job wait, and with what margin.
+// Locks beside fixed starts: whether a sporadic task may have a resource, that is whether the length it asks for fits into the free ticks before the next start that uses it, and by what margin.
 // The call answers any start table, any resources and any request by value; a refusal gives its number, not granted, and margin 0.
 ghost use mathlib.Core.Path.{_≡_};
 ghost use Rattle.locks.specs.Answers.{grantAnswer};

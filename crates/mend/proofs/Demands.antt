@@ -1,27 +1,29 @@
 -- Ask 11's demands in its own words, about the definitions that the promise cites. Assumes nothing.
-use Prim.Native.Nat.{ℕ, _+_, _*_, _≤_, _<_}
+use Prim.Native.Nat.{ℕ, _+_, _*_, _-_, _≤_, _<_}
 use mathlib.Core.Path.{_≡_, refl, sym, ap, subst, _∙_}
 use mathlib.Core.Bool.{cond}
 use mathlib.Core.Logic.{_↔_, inl, inr}
 use mathlib.Core.List.{List, [], _++_, List·Memᴰ}
 use native.Mathlib.Decide.{ℕ-discrete}
 use native.Mathlib.Omega.{arith}
-use borrow.Author.Tests.{ne-eqb, le-ltb}
-use lib.Dec.{ltb}
-use lib.ListN.{length, take, drop, replicate}
-use lib.Seq.{take-at}
+use borrow.Author.Tests.{lt-ltb, le-ltb}
+use lib.Dec.{eqb, ltb}
+use lib.ListN.{length, getD, take, drop, replicate, getD-replicate}
+use lib.Seq.{take-at, getD-append-add}
+use Rattle.sheet.specs.declared.Record.{Record}
 use Rattle.sheet.specs.Places.{orElse}
 use Rattle.sheet.specs.Layout.{countOf, editionOf, intervalOf, roundOf, shareOf, startOf, sizeOf, partOf, sheetRecord}
 use Rattle.sheet.specs.Rules.{headerRefusal, sheetRefusal}
-use Rattle.sheet.specs.Broken.{InOrder, sheetRows}
+use Rattle.sheet.specs.Broken.{Outside, InOrder, sheetRows}
 use Rattle.sheet.proofs.Turns.{next-of, none-of, first-of}
-use Rattle.sheet.proofs.Cases.{good-sheet}
-use Rattle.sheet.proofs.Tells.{ltb-tells}
+use Rattle.sheet.proofs.Cases.{good-sheet, outside-within}
+use Rattle.sheet.proofs.Tells.{shown, ltb-tells, outside-tells}
 use Rattle.sheet.proofs.Order.{says-none, says-row, says-wider, says-joined, in-order, rule-positive, sheet-says, sheet-in-order}
-use Rattle.sheet.proofs.Refused.{given-if}
+use Rattle.sheet.proofs.Refused.{given-if, beside-refusal}
 use Rattle.sheet.proofs.Spelled.{Bytes}
+use Rattle.mend.specs.declared.Field.the-variants.{Length}
 use Rattle.mend.specs.declared.Change.{Change}
-use Rattle.mend.specs.Mended.{mendedRecord, mended}
+use Rattle.mend.specs.Mended.{mendedDeadline, mendedFault, mendedRecord, mended}
 use Rattle.mend.specs.Changes.{noChange, changesOf, held}
 use Rattle.mend.specs.Answers.{mendRefusal, mendAnswer, mendLeaves}
 use Rattle.mend.specs.Applied.{listOf, applyAll, Difference, Rises}
@@ -35,10 +37,46 @@ use Rattle.mend.proofs.Applying.{changes-applied}
 use Rattle.mend.proofs.Exactly.{after, listed-exactly, changes-rise}
 use Rattle.mend.proofs.Untouched.{Kept, record-untouched, header-untouched}
 
+-- a change whose figures are all 0
+abbrev zeroChange : Change
+zeroChange = record { place = 0; field = Length; old = 0; new = 0 }
+
 -- the changes that are held are the list
 held-list : (l : List Change) → listOf (held l) ≡ l
 unfolding listOf held
 held-list l = take-at l _ (length l) refl
+
+-- past their number stand zeros
+held-past : (l : List Change) (place : ℕ) → length l ≤ place → place < 17 → (other : Change) → getD (held l .list) place other ≡ zeroChange
+unfolding held
+held-past l place high below other =
+    let whole : length l + (place - length l) ≡ place = omega arith in
+    ap (λ (k : ℕ). getD (held l .list) k other) (sym whole) ∙ getD-append-add l _ (place - length l) other ∙ getD-replicate (17 - length l) (place - length l) noChange other (omega arith)
+
+-- A record before and after: "bring a deadline above its period down to the period, and bring a fault priority above the task's own, or zero, to its own"; anything else stays
+pub record Brought (before after : Record) : Type 0 where
+  pub late : before .period < before .deadline → after .deadline ≡ before .period
+  pub timely : before .deadline ≤ before .period → after .deadline ≡ before .deadline
+  pub wrong : Outside (before .«fault_priority») (before .priority) → after .«fault_priority» ≡ before .priority
+  pub right : 1 ≤ before .«fault_priority» → before .«fault_priority» ≤ before .priority → after .«fault_priority» ≡ before .«fault_priority»
+  pub cost : after .cost ≡ before .cost
+  pub backup : after .backup ≡ before .backup
+  pub period : after .period ≡ before .period
+  pub priority : after .priority ≡ before .priority
+
+brought : (r : Record) → Brought r (mendedRecord r)
+unfolding mendedRecord mendedDeadline mendedFault
+brought r =
+    record {
+      late = λ above. simp (lt-ltb (r .period) (r .deadline) above);
+      timely = λ within. simp (le-ltb (r .period) (r .deadline) within);
+      wrong = λ bad. simp (shown (outside-tells (r .«fault_priority») (r .priority)) bad);
+      right = λ some within. simp (outside-within (r .«fault_priority») (r .priority) (some, within));
+      cost = refl;
+      backup = refl;
+      period = refl;
+      priority = refl;
+    }
 
 -- the sheet that `mend` returns: as many bytes of the output as it says were written
 abbrev pub returned : List ℕ → List ℕ → List ℕ
@@ -111,8 +149,8 @@ module _ (s out : List ℕ) (fine : mendRefusal s out ≡ 0) where
     record-stays k below = rw returned-is (record-untouched s whole byte k below)
 
     -- the three changes, and "It never touches costs, periods, priorities or E", nor Q and S, nor the count
-    pub records-mended : (k : ℕ) → k < countOf s → sheetRecord (returned s out) k ≡ mendedRecord (sheetRecord s k)
-    records-mended k below = ap (λ (t : List ℕ). sheetRecord t k) returned-is ∙ after s whole byte k below
+    pub records-mended : (k : ℕ) → k < countOf s → Brought (sheetRecord s k) (sheetRecord (returned s out) k)
+    records-mended k below = subst (Brought (sheetRecord s k)) (sym (ap (λ (t : List ℕ). sheetRecord t k) returned-is ∙ after s whole byte k below)) (brought (sheetRecord s k))
 
     pub figures-stay : (countOf (returned s out) ≡ countOf s) × (editionOf (returned s out) ≡ editionOf s) × (intervalOf (returned s out) ≡ intervalOf s) × (roundOf (returned s out) ≡ roundOf s) × (shareOf (returned s out) ≡ shareOf s)
     figures-stay =
@@ -170,9 +208,16 @@ module _ (s out : List ℕ) where
 
   -- refused, no byte is written, no change is listed, every figure is 0, and the output stays as it was
   pub mend-refused : (mendRefusal s out ≡ 0 → ⊥)
-      → (mendAnswer s out ≡ record { refusal = mendRefusal s out; written = 0; changes = record { count = 0; list = replicate 17 noChange } }) × (changesListed s out ≡ []) × (mendLeaves s out ≡ out)
+      → (mendAnswer s out ≡ record { refusal = mendRefusal s out; written = 0; changes = record { count = 0; list = replicate 17 zeroChange } }) × (changesListed s out ≡ []) × (mendLeaves s out ≡ out)
   unfolding mendAnswer mendLeaves held listOf
-  mend-refused broken = simp (ne-eqb (mendRefusal s out) 0 broken) (refl, refl, refl)
+  mend-refused broken =
+      let none : cond (eqb (mendRefusal s out) 0) (changesOf s) [] ≡ [] = beside-refusal (mendRefusal s out) _ [] broken in
+      (simp (none, beside-refusal (mendRefusal s out) (length (mended s)) 0 broken), ap (λ (l : List Change). listOf (held l)) none, beside-refusal (mendRefusal s out) _ out broken)
+
+  -- refused or not, what stands past the changes listed is zeros
+  pub list-past : (place : ℕ) → mendAnswer s out .changes .count ≤ place → place < 17 → (other : Change) → getD (mendAnswer s out .changes .list) place other ≡ zeroChange
+  unfolding mendAnswer held
+  list-past place high below other = held-past (cond (eqb (mendRefusal s out) 0) (changesOf s) []) place high below other
 
 -- a sheet that its header does not say the length of, or that is shorter: nothing is cut or changed, and the refusal is 1, 2, 3 or 4
 pub incomplete-left : (s : List ℕ) → (Complete s → ⊥) → (mended s ≡ s) × (1 ≤ sheetRefusal (mended s)) × (sheetRefusal (mended s) ≤ 4)

@@ -1,11 +1,10 @@
--- The public call's promise leaves one answer and one content of the lent output: any two that it admits are equal. Assumes nothing.
-use Prim.Native.Nat.{ℕ}
+-- The public call's promise leaves one answer and one content of the lent output: any two that its contract admits are equal. Assumes nothing.
 use mathlib.Core.Path.{_≡_}
-use mathlib.Core.List.{List}
+use contract.Lifetimes.{Lfts}
+use denote.Ref.{now}
 use Rattle.sheet.proofs.Unique.{both}
 use Rattle.mend.specs.declared.Mending.{Mending}
-use Rattle.mend.specs.Answers.{mendAnswer, mendLeaves}
+use Rattle.mend.proofs.mend.Reads as mended
 
-pub mend-unique : (sheet out : List ℕ) (a b : Mending) (left left′ : List ℕ)
-    → (a ≡ mendAnswer sheet out) × (left ≡ mendLeaves sheet out) → (b ≡ mendAnswer sheet out) × (left′ ≡ mendLeaves sheet out) → (a ≡ b) × (left ≡ left′)
-mend-unique sheet out a b left left′ p q = (both (p .0) (q .0), both (p .1) (q .1))
+pub mend-unique : (κs : Lfts 2) (given : _) (a b : Mending) (left left′ : _) → mended.Learnt κs given a left → mended.Learnt κs given b left′ → (a ≡ b) × (now (left .1 .0) ≡ now (left′ .1 .0))
+mend-unique κs given a b left left′ p q = (both (p .0) (q .0), both (p .1) (q .1))

@@ -1,7 +1,6 @@
 -- What the answers of the crates below say: a record's outcome, the verdict, a sheet's table. Assumes nothing.
 use Prim.Native.Nat.{ℕ, _<_}
 use mathlib.Core.Path.{_≡_, sym, ap, _∙_}
-use mathlib.Core.Bool.{false}
 use mathlib.Core.List.{List}
 use borrow.Author.Tests.{lt-ltb}
 use Rattle.sheet.specs.declared.Table.{Table}
@@ -14,7 +13,7 @@ use Rattle.sheet.proofs.Demands.{table-good}
 use Rattle.analysis.specs.declared.Timed.{Timed}
 use Rattle.analysis.specs.declared.Assessment.{Assessment}
 use Rattle.analysis.specs.Response.{passes}
-use Rattle.analysis.specs.Answers.{timedRefusal, timedAnswer, entryOf, entryFrom, ownTasks, assessmentOf, choiceAssessment, ownAssessment}
+use Rattle.analysis.specs.Answers.{timedRefusal, timedAnswer, entryOf, entryFrom, ownTasks, assessed, choiceAssessment, ownAssessment}
 use Rattle.analysis.proofs.Choice.{own-refusal}
 use Rattle.release.specs.Rules.{outcomeAt}
 
@@ -23,9 +22,9 @@ pub timed-outcome : (t : Table) (place : ℕ) → tableRefusal t ≡ 0 → place
 unfolding timedAnswer timedRefusal orElse entryOf entryFrom outcomeAt
 timed-outcome t place good below answer e = ap (λ (x : Timed). x .entry .outcome) e ∙ simp (good, lt-ltb place (t .count) below)
 
--- what the verdict alone says of a good table
-pub passes-said : (t : Table) → tableRefusal t ≡ 0 → (answer : Assessment) → answer ≡ ownAssessment t false → answer .passes ≡ passes (ownTasks t)
-unfolding ownAssessment choiceAssessment assessmentOf
+-- what the verdict says of a good table
+pub passes-said : (t : Table) → tableRefusal t ≡ 0 → (answer : Assessment) → answer ≡ ownAssessment t → answer .passes ≡ passes (ownTasks t)
+unfolding ownAssessment choiceAssessment assessed
 passes-said t good answer e =
     let fine = own-refusal t ∙ good in
     ap (λ (x : Assessment). x .passes) e ∙ simp fine

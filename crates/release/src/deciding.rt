@@ -1,6 +1,6 @@
 // The release rule over two good tables: the counts, the protected places, the candidate's verdict, and responses that grow.
 ghost use mathlib.Core.Path.{_≡_};
-ghost use Prim.Native.Nat.{_≤_, _<_};
+ghost use Prim.Native.Nat.{_<_};
 ghost use Rattle.sheet.specs.Rules.{tableRefusal};
 ghost use Rattle.release.specs.Rules.{isProtected, grows, growsAt, someGrows, someOutside};
 ghost use Rattle.release.specs.Answers.{refusedWith, decided};
@@ -90,7 +90,7 @@ pub fn between(old: Table, new: Table, protected: u8) -> Decision
     if some_outside(protected, old.count as usize) {
         return refused(12);
     }
-    let passes = analysis::assess(new, false).passes;
+    let passes = analysis::assess(new).passes;
     Decision {
         refusal: 0,
         loads: passes & !some_grows(old, new, protected),

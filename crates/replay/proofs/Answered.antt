@@ -1,6 +1,6 @@
 -- What `start`, `replay` and `check` answer, from what their parts answered. Assumes nothing.
 use Prim.Native.Nat.{ℕ, _/_, _%_}
-use mathlib.Core.Path.{_≡_, refl, sym, ap, _∙_}
+use mathlib.Core.Path.{_≡_, refl, sym, ap, subst, _∙_}
 use mathlib.Core.Bool.{Bool, true, false, cond}
 use mathlib.Core.List.{List}
 use native.Mathlib.Decide.{ℕ-discrete}
@@ -22,10 +22,11 @@ use Rattle.replay.specs.declared.Checked.{Checked}
 use Rattle.replay.specs.declared.Checked.the-variants.{Refused}
 use Rattle.replay.specs.Cells.{cellAt, isReady, oneIf, countBelow}
 use Rattle.replay.specs.Counts.{noCounts, unfinishedIn, countsFrom}
-use Rattle.replay.specs.Machines.{machineOf, noMachine, ranOver, countsOf}
+use Rattle.replay.specs.Machines.{machineOf, noMachine, IsTied, tied, ranOver, countsOf}
 use Rattle.replay.specs.Rules.{sharedRefusal, startRefusal, logRefusal}
 use Rattle.replay.specs.Shown.{logIn, logOf, matching, suppliedRefusal}
 use Rattle.replay.specs.Answers.{startAnswer, goOnAnswer, replayRefusal, replayAnswer, compared, suppliedAnswer, checkRefusal, checkAnswer}
+use Rattle.replay.proofs.Levels.{started-tied, none-tied, tied-same}
 use Rattle.replay.proofs.Matched.{compared-refused}
 
 module _ (sheet : List ℕ) (reading : Reading) (read : reading ≡ readAnswer sheet) where
@@ -56,6 +57,18 @@ module _ (sheet : List ℕ) (reading : Reading) (read : reading ≡ readAnswer s
     start-passed m passed e =
         let good : startRefusal sheet ≡ 0 = sym start-judged ∙ passed in
         simp (good, e ∙ ap machineOf (read-table (none-of (sheetRefusal sheet) _ good .0)))
+
+-- every machine that is started keeps its ready levels
+pub start-tied : (sheet : List ℕ) → IsTied (startAnswer sheet .machine)
+unfolding startAnswer
+start-tied sheet = go (eqb (startRefusal sheet) 0)
+  where
+    go : (b : Bool) → IsTied (cond b (machineOf (tableOf sheet)) noMachine)
+    go true = started-tied (tableOf sheet)
+    go false = none-tied
+
+pub machine-tied : (sheet : List ℕ) (started : Run) → started ≡ startAnswer sheet → IsTied (started .machine)
+machine-tied sheet started start = subst (λ (r : Run). IsTied (r .machine)) (sym start) (start-tied sheet)
 
 -- a machine of zeros has counted nothing
 pub none-counted : countsOf noMachine ≡ noCounts
@@ -95,7 +108,7 @@ module _ (sheet log : List ℕ) (started : Run) (start : started ≡ startAnswer
       replay-gone counts counted =
           let m = machineOf (tableOf sheet) in
           let refusal : run .refusal ≡ logRefusal m log = ap (λ (r : Run). r .refusal) answered in
-          let said : counts ≡ cond (eqb (logRefusal m log) 0) (countsOf (ranOver m log)) noCounts = counted ∙ ap (λ (r : Run). countsOf (r .machine)) answered ∙ pick-counts (eqb (logRefusal m log) 0) (ranOver m log) in
+          let said : counts ≡ cond (eqb (logRefusal m log) 0) (countsOf (ranOver m log)) noCounts = counted ∙ ap (λ (r : Run). countsOf (r .machine)) answered ∙ pick-counts (eqb (logRefusal m log) 0) (ranOver (tied m) log) ∙ ap (λ (m′ : Machine). cond (eqb (logRefusal m log) 0) (countsOf (ranOver m′ log)) noCounts) (tied-same m (started-tied (tableOf sheet))) in
           simp (next-of (logRefusal m log) good) (λ i. record { refusal = refusal i; counts = said i })
 
   -- a record that is refused for its sheet, or else answered by the sheet's machine

@@ -1,7 +1,7 @@
 -- Counting over places: none, all, one more, and place by place. Assumes nothing.
 use Prim.Native.Nat.{ℕ, zero, suc, _+_, _<_}
-use mathlib.Core.Path.{_≡_, refl, ap}
-use mathlib.Core.Bool.{Bool, false}
+use mathlib.Core.Path.{_≡_, refl, ap, _∙_}
+use mathlib.Core.Bool.{Bool, true, false, cond}
 use mathlib.Core.Logic.{_⊎_, ⊎-elim}
 use native.Mathlib.Nat.{not-suc-le-zero, eq-or-lt-of-le, le-of-suc-le-suc}
 use native.Mathlib.Omega.{arith}
@@ -11,6 +11,15 @@ pub count-none : (test : ℕ → Bool) (n : ℕ) → ((k : ℕ) → k < n → te
 unfolding countBelow oneIf
 count-none test zero none = refl
 count-none test (suc n) none = simp (count-none test n (λ k below. none k (omega arith)), none n (omega arith))
+
+pub count-zero : (test : ℕ → Bool) (n : ℕ) → countBelow test n ≡ 0 → (k : ℕ) → k < n → test k ≡ false
+unfolding countBelow oneIf
+count-zero test zero none k below = absurd (not-suc-le-zero below)
+count-zero test (suc n) none k below = ⊎-elim (λ same. ap test same ∙ go (test n) none) (λ low. count-zero test n (omega arith) k low) (eq-or-lt-of-le (le-of-suc-le-suc below))
+  where
+    go : (b : Bool) → countBelow test n + cond b 1 0 ≡ 0 → b ≡ false
+    go true e = absurd (omega arith)
+    go false e = refl
 
 -- two pairs of tests that count alike at each place count alike together
 pub count-pairs : (f g h i : ℕ → Bool) (n : ℕ) → ((k : ℕ) → k < n → oneIf (f k) + oneIf (g k) ≡ oneIf (h k) + oneIf (i k)) → countBelow f n + countBelow g n ≡ countBelow h n + countBelow i n

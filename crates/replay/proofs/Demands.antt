@@ -20,20 +20,24 @@ use Rattle.replay.specs.declared.Cell.{Cell}
 use Rattle.replay.specs.declared.Tally.{Tally}
 use Rattle.replay.specs.declared.Counts.{Counts}
 use Rattle.replay.specs.declared.Machine.{Machine}
+use Rattle.replay.specs.declared.Following.{Following}
 use Rattle.replay.specs.Tick.{isReleased, isMarked}
 use Rattle.replay.specs.Cells.{noCell, cellAt, isReady}
 use Rattle.replay.specs.Runner.{levelOf}
 use Rattle.replay.specs.Step.{runs, worked, struck}
 use Rattle.replay.specs.Counts.{noTally, added, unfinishedIn, countsFrom}
-use Rattle.replay.specs.Machines.{machineOf, noMachine, cellsEntered, runnerOf, cellsRan, tick, ranOver, countsOf}
+use Rattle.replay.specs.Machines.{machineOf, noMachine, IsTied, tied, cellsEntered, runnerOf, cellsRan, tick, ranOver, countsOf}
 use Rattle.replay.specs.Rules.{sharedRefusal, startRefusal, ticksRefusal, logRefusal}
 use Rattle.replay.specs.Answers.{startAnswer, goOnAnswer, replayRefusal, replayAnswer}
+use Rattle.replay.specs.Pieces.{tiedIn, takenAnswer}
 use Rattle.replay.specs.Totals.{machineAt, totalsOver}
 use Rattle.replay.specs.Positions.{releasesAt, logRows, LogNumber, startRows, ReplayNumber}
 use Rattle.replay.proofs.Struck.{others-kept, runner-changed}
+use Rattle.replay.proofs.Levels.{none-tied, tied-tied, tied-same, ran-tied, refusal-any}
 use Rattle.replay.proofs.Joined.{accepted, ran-joined, ticks-joined, refusal-joined}
 use Rattle.replay.proofs.Going.{even-ticks}
 use Rattle.replay.proofs.Answered.{replay-gone}
+use Rattle.replay.proofs.Stepped.{tied-in, bytes-tied}
 use Rattle.replay.proofs.Ordered.{GoesFirst, runs-first, idle-none, none-idle}
 use Rattle.replay.proofs.Added.{Below, widen, tally-wraps, totals-small, added-exact, ticks-add-up}
 use Rattle.replay.proofs.Counted.{count-none}
@@ -55,6 +59,19 @@ module _ (m : Machine) (releases : ℕ) (levels : (place : ℕ) → recordAt (m 
   pub idle-exactly : (runnerOf m releases ≡ 0) ↔ ((place : ℕ) → place < 8 → isReady (cellAt (cellsEntered m releases) place) ≡ false)
   unfolding runnerOf
   idle-exactly = (idle-none (recordAt (m .tasks)) (cellAt (cellsEntered m releases)) levels, none-idle (recordAt (m .tasks)) (cellAt (cellsEntered m releases)) levels)
+
+-- "The set of ready levels is kept as bits": every machine that is handed back has the levels of its own ready jobs, whichever it was handed in with; a start alike (`start-tied`), and "the highest is found by counting leading zeros" in them (`highest-level`)
+pub go-on-keeps : (m : Machine) (part : List ℕ) → IsTied (goOnAnswer m part .machine)
+unfolding goOnAnswer
+go-on-keeps m part = go (eqb (logRefusal m part) 0)
+  where
+    go : (b : Bool) → IsTied (cond b (ranOver (tied m) part) noMachine)
+    go true = ran-tied (tied m) part (tied-tied m)
+    go false = none-tied
+
+pub take-keeps : (f : Following) (piece : List ℕ) → IsTied (takenAnswer f piece .machine)
+unfolding takenAnswer
+take-keeps f piece = bytes-tied (tiedIn f) piece (tied-in f)
 
 -- the tasks of a machine never change
 pub tasks-stay : (m : Machine) (log : List ℕ) → ranOver m log .tasks ≡ m .tasks
@@ -93,10 +110,10 @@ module _ (m : Machine) (releases faults place : ℕ) (below : place < 8) where
 pub parts-joined : (m : Machine) (a b : List ℕ) → logRefusal m a ≡ 0 → goOnAnswer (goOnAnswer m a .machine) b ≡ goOnAnswer m (a ++ b)
 unfolding goOnAnswer
 parts-joined m a b passed =
-    let first = accepted m a passed in
-    let refusal = sym (refusal-joined m a b (first .0) (first .1)) in
-    let machine = sym (ran-joined m a b (first .0)) in
-    ap (λ (n : ℕ). goOnAnswer (cond (eqb n 0) (ranOver m a) noMachine) b) passed
+    let first = accepted (tied m) a (refusal-any m a ∙ passed) in
+    let refusal = sym (refusal-joined (tied m) a b (first .0) (first .1)) ∙ refusal-any m (a ++ b) in
+    let machine = ap (λ (m′ : Machine). ranOver m′ b) (tied-same (ranOver (tied m) a) (ran-tied (tied m) a (tied-tied m))) ∙ sym (ran-joined (tied m) a b (first .0)) in
+    ap (λ (n : ℕ). goOnAnswer (cond (eqb n 0) (ranOver (tied m) a) noMachine) b) passed
     ∙ (λ i. record { refusal = refusal i; machine = cond (eqb (refusal i) 0) (machine i) noMachine })
 
 -- and a first part of even length that is refused gives the refusal of the whole, where that has even length

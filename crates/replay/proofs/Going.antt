@@ -1,19 +1,22 @@
 -- Going on over a log, or over the log that a record contains, tick by tick: one more tick, and what the answer is once a tick is refused or all are passed. Assumes nothing.
 use Prim.Native.Nat.{ℕ, suc, _+_, _*_, _/_, _%_, _≤_, _<_}
 use mathlib.Core.Path.{_≡_, refl, sym, ap, _∙_}
+use mathlib.Core.Bool.{cond}
 use mathlib.Core.List.{List, [], _∷_}
 use native.Mathlib.Decide.{ℕ-discrete}
 use native.Mathlib.Omega.{arith}
 use borrow.Author.Tests.{eq-eqb, ne-eqb}
+use lib.Dec.{eqb}
 use lib.ListN.{length, getD, drop}
 use lib.Seq.{drop-cons}
 use Rattle.sheet.specs.Places.{orElse}
 use Rattle.sheet.proofs.Turns.{next-of, first-of}
 use Rattle.replay.specs.declared.Machine.{Machine}
-use Rattle.replay.specs.Machines.{noMachine, tick, ranOver}
+use Rattle.replay.specs.Machines.{noMachine, IsTied, tied, tick, ranOver}
 use Rattle.replay.specs.Rules.{tickRefusal, ticksRefusal, logRefusal}
 use Rattle.replay.specs.Shown.{logIn, logOf}
 use Rattle.replay.specs.Answers.{goOnAnswer}
+use Rattle.replay.proofs.Levels.{tied-tied, tied-same, refusal-any}
 
 -- the byte at a place, and what comes after it
 next-byte : (bytes : List ℕ) (at : ℕ) → at < length bytes → drop at bytes ≡ getD bytes at 0 ∷ drop (at + 1) bytes
@@ -116,6 +119,11 @@ module _ (m : Machine) (log : List ℕ) where
   unfolding goOnAnswer
   refused-answer r none e refused broken = simp (refused, ne-eqb r 0 broken, e)
 
-  pub passed-answer : (last : Machine) → logRefusal m log ≡ 0 → last ≡ ranOver m log → record { refusal = 0; machine = last } ≡ goOnAnswer m log
+  pub passed-answer : (last : Machine) → IsTied m → logRefusal m log ≡ 0 → last ≡ ranOver m log → record { refusal = 0; machine = last } ≡ goOnAnswer m log
   unfolding goOnAnswer
-  passed-answer last passed e = simp (passed, e)
+  passed-answer last keeps passed e = simp (passed, tied-same m keeps, e)
+
+  -- the answer does not hang on the levels that are handed in
+  pub go-on-any : goOnAnswer (tied m) log ≡ goOnAnswer m log
+  unfolding goOnAnswer
+  go-on-any = λ i. record { refusal = refusal-any m log i; machine = cond (eqb (refusal-any m log i) 0) (ranOver (tied-same (tied m) (tied-tied m) i) log) noMachine }

@@ -8,6 +8,7 @@ pub mod Struck
 pub mod Chosen
 pub mod Ordered
 pub mod Ticked
+pub mod Levels
 pub mod Going
 pub mod Joined
 pub mod Countdown
@@ -20,6 +21,7 @@ pub mod Added
 pub mod Answered
 pub mod Stepped
 pub mod Followed
+pub mod Zeros
 pub mod Rows
 pub mod Unique
 pub mod Demands

@@ -17,15 +17,15 @@ use Rattle.replay.specs.declared.Following.{Following}
 use Rattle.replay.specs.declared.Checked.{Checked}
 use Rattle.replay.specs.declared.Checked.the-variants.{Refused, Accepted, Differs}
 use Rattle.replay.specs.Counts.{noCounts}
-use Rattle.replay.specs.Machines.{machineOf, ranOver, countsOf}
+use Rattle.replay.specs.Machines.{machineOf, IsTied, ranOver, countsOf}
 use Rattle.replay.specs.Rules.{startRefusal, ticksRefusal, logRefusal}
 use Rattle.replay.specs.Shown.{logIn, matching, suppliedRefusal}
 use Rattle.replay.specs.Answers.{startAnswer, replayRefusal, replayAnswer, compared, checkRefusal, checkAnswer}
-use Rattle.replay.specs.Pieces.{beforeBytes, beforeLog, beforeRecord, followed, refusalAt, replayedAnswer, checkedAnswer, allTaken, joined}
+use Rattle.replay.specs.Pieces.{beforeBytes, beforeLog, beforeRecord, followed, tiedIn, takenAnswer, refusalAt, replayedAnswer, checkedAnswer, allTaken, joined}
 use Rattle.replay.proofs.Going.{log-length, even-ticks}
-use Rattle.replay.proofs.Answered.{machine-started}
+use Rattle.replay.proofs.Answered.{start-tied, machine-started}
 use Rattle.replay.proofs.Records.{refusals-of-ask-1}
-use Rattle.replay.proofs.Stepped.{pieces-joined}
+use Rattle.replay.proofs.Stepped.{tied-in, tied-in-same, bytes-tied, pieces-joined}
 use Rattle.replay.proofs.Followed.{start-stays, log-holds, record-holds, Judged, log-judged, record-judged, toldWith, record-told}
 
 -- What is kept once all bytes are taken that hold a log, with so many left over
@@ -139,14 +139,23 @@ module _ (sheet supplied : List ℕ) where
         go (no broken) = simp (ne-eqb (checkRefusal sheet supplied) 0 broken)
 
 -- any number of pieces are one
-pub all-joined : (f : Following) (pieces : List (List ℕ)) → allTaken f pieces ≡ followed f (joined pieces)
-unfolding allTaken joined followed
-all-joined f [] = refl
-all-joined f (piece ∷ pieces) = all-joined (followed f piece) pieces ∙ sym (pieces-joined f piece (joined pieces))
+pub all-joined : (f : Following) (pieces : List (List ℕ)) → IsTied (f .machine) → allTaken f pieces ≡ followed f (joined pieces)
+unfolding allTaken joined followed takenAnswer
+all-joined f [] keeps = refl
+all-joined f (piece ∷ pieces) keeps =
+    all-joined (takenAnswer f piece) pieces (bytes-tied (tiedIn f) piece (tied-in f))
+    ∙ ap (λ (g : Following). followed (followed g piece) (joined pieces)) (tied-in-same f keeps) ∙ sym (pieces-joined f piece (joined pieces))
+
+-- what is started with keeps its ready levels
+begun-tied : (isRecord : Bool) (sheet : List ℕ) → IsTied (beforeBytes isRecord (startAnswer sheet) .machine)
+unfolding beforeBytes
+begun-tied isRecord sheet = start-tied sheet
 
 -- "Logs and records of any length, read in pieces": whatever the pieces, the answer is that of the whole
 pub log-in-pieces : (sheet : List ℕ) (pieces : List (List ℕ)) → replayedAnswer (allTaken (beforeLog sheet) pieces) ≡ replayAnswer sheet (joined pieces)
-log-in-pieces sheet pieces = ap replayedAnswer (all-joined (beforeLog sheet) pieces) ∙ log-followed sheet (joined pieces)
+unfolding beforeLog
+log-in-pieces sheet pieces = ap replayedAnswer (all-joined (beforeLog sheet) pieces (begun-tied false sheet)) ∙ log-followed sheet (joined pieces)
 
 pub record-in-pieces : (sheet : List ℕ) (pieces : List (List ℕ)) → length (joined pieces) / 3 < 2 ^ 64 → checkedAnswer (allTaken (beforeRecord sheet) pieces) ≡ checkAnswer sheet (joined pieces)
-record-in-pieces sheet pieces few = ap checkedAnswer (all-joined (beforeRecord sheet) pieces) ∙ record-followed sheet (joined pieces) few
+unfolding beforeRecord
+record-in-pieces sheet pieces few = ap checkedAnswer (all-joined (beforeRecord sheet) pieces (begun-tied true sheet)) ∙ record-followed sheet (joined pieces) few

@@ -13,13 +13,14 @@ use Rattle.sheet.specs.Rules.{outside, wrongShare, taken, refusalOf, recordRefu
 use Rattle.replay.specs.Tick.{isReleased, isAbove, isMarked, hasOther}
 use Rattle.replay.specs.Cells.{cellAt, eight, isReady, oneIf, countBelow}
 use Rattle.replay.specs.Runner.{highest, levelOf, isAt, topLevel, topBackup, runner}
+use Rattle.replay.specs.Bits.{bitsOf, readyLevels}
 use Rattle.replay.specs.Step.{entered, runs, ran, faulted, isLast, isMissed, ended, gapAfter}
 use Rattle.replay.specs.Counts.{cellOf, gains, added, unfinishedIn, countsFrom}
-use Rattle.replay.specs.Machines.{withPriority, byPriority, machineOf, cellsEntered, runnerOf, cellsRan, tickGains, tick, ranOver, countsOf}
+use Rattle.replay.specs.Machines.{withPriority, byPriority, machineOf, tied, cellsEntered, runnerOf, cellsRan, tickGains, tick, ranOver, countsOf}
 use Rattle.replay.specs.Rules.{sharedRefusal, startRefusal, isStrange, isEarly, someEarly, isHasty, tickRefusal, ticksRefusal, logRefusal}
 use Rattle.replay.specs.Shown.{logIn, shown, matching, suppliedRefusal}
 use Rattle.replay.specs.Answers.{startAnswer, replayRefusal, replayAnswer, compared, checkRefusal, checkAnswer}
-use Rattle.replay.specs.Pieces.{beforeBytes, beforeLog, beforeRecord, holding, breaking, running, differsWith, ticked, stepped, followed, refusalAt, replayedAnswer, checkedAnswer}
+use Rattle.replay.specs.Pieces.{beforeBytes, beforeLog, beforeRecord, holding, breaking, running, differsWith, ticked, stepped, followed, tiedIn, takenAnswer, refusalAt, replayedAnswer, checkedAnswer}
 
 -- "Tasks (C, B, D, T, p, q): 4 4 100 100 3 1; 2 1 7 7 2 2; 1 1 100 100 1 1; E = 100."
 unfoldable pub sheet : List ℕ
@@ -35,6 +36,10 @@ log =
 unfoldable pub leftAfter : ℕ → ℕ
 leftAfter bytes = cellAt (ranOver (machineOf (tableOf sheet)) (take bytes log) .cells) 2 .left
 
+-- and the levels of the jobs that are ready then
+unfoldable pub readyAfter : ℕ → ℕ
+readyAfter bytes = ranOver (machineOf (tableOf sheet)) (take bytes log) .ready
+
 -- the seven counts of the twelve ticks
 pub log-counts : replayAnswer sheet log ≡ record { refusal = 0; counts = record { «first_attempts» = 8; backups = 4; idle = 0; released = 4; finished = 3; missed = 0; unfinished = 1 } }
 unfolding sheet log orElse firstBelow someBelow filledBelow regrouped headerOf countOf editionOf intervalOf roundOf shareOf startOf sizeOf isWhole partOf recordFrom recordOf sheetRecord recordAt room tableOf outside wrongShare taken refusalOf recordRefusal recordsRefusal headerRefusal sheetRefusal sharedRefusal startRefusal isReleased isAbove isMarked hasOther cellAt eight isReady oneIf countBelow highest levelOf isAt topLevel topBackup runner entered runs ran faulted isLast isMissed ended gapAfter cellOf gains added unfinishedIn countsFrom withPriority byPriority machineOf cellsEntered runnerOf cellsRan tickGains tick ranOver countsOf isStrange isEarly someEarly isHasty tickRefusal ticksRefusal logRefusal replayRefusal replayAnswer
@@ -44,6 +49,11 @@ log-counts = refl
 pub first-done : (leftAfter 22 ≡ 1) × (leftAfter 24 ≡ 0)
 unfolding leftAfter sheet log someBelow filledBelow regrouped headerOf countOf editionOf intervalOf startOf partOf recordFrom recordOf sheetRecord recordAt room tableOf isReleased isMarked cellAt eight isReady oneIf countBelow highest levelOf isAt topLevel topBackup runner entered runs ran faulted isLast isMissed ended gapAfter cellOf gains added withPriority byPriority machineOf cellsEntered runnerOf cellsRan tickGains tick ranOver
 first-done = (refl, refl)
+
+-- "The set of ready levels is kept as bits": none; 3, 2 and 1; the struck job at its fault priority 1 beside 2 and 1; level 1 alone, twice; then level 1 once
+pub levels-kept : (readyAfter 0 ≡ 0) × (readyAfter 2 ≡ 7) × (readyAfter 8 ≡ 3) × (readyAfter 12 ≡ 1) × (readyAfter 24 ≡ 1)
+unfolding readyAfter sheet log someBelow filledBelow regrouped headerOf countOf editionOf intervalOf startOf partOf recordFrom recordOf sheetRecord recordAt room tableOf isReleased isMarked cellAt eight isReady oneIf countBelow highest levelOf isAt bitsOf readyLevels topLevel topBackup runner entered runs ran faulted isLast isMissed ended gapAfter cellOf gains added withPriority byPriority machineOf cellsEntered runnerOf cellsRan tickGains tick ranOver
+levels-kept = (refl, refl, refl, refl, refl)
 
 -- the same ticks as a record, with what the tick at 6 shows, and what the last says is released and shows
 unfoldable pub supplied : ℕ → ℕ → ℕ → List ℕ
@@ -57,12 +67,12 @@ record-checked = (refl, refl, refl, refl)
 
 -- what is answered of a log, and of a record, whose first piece has so many bytes and whose second has the rest
 unfoldable pub replayedCut : ℕ → List ℕ → Replayed
-replayedCut bytes all = replayedAnswer (followed (followed (beforeLog sheet) (take bytes all)) (drop bytes all))
+replayedCut bytes all = replayedAnswer (takenAnswer (takenAnswer (beforeLog sheet) (take bytes all)) (drop bytes all))
 
 unfoldable pub checkedCut : ℕ → List ℕ → Checked
-checkedCut bytes all = checkedAnswer (followed (followed (beforeRecord sheet) (take bytes all)) (drop bytes all))
+checkedCut bytes all = checkedAnswer (takenAnswer (takenAnswer (beforeRecord sheet) (take bytes all)) (drop bytes all))
 
 -- the same counts and answers with a tick cut in two; a tick that breaks 15, before one byte more, after which it is 14; a refusal after a tick that differs
 pub pieces-worked : (replayedCut 7 log ≡ replayAnswer sheet log) × (checkedCut 19 (supplied 131 0 131) ≡ Accepted) × (checkedCut 20 (supplied 3 0 131) ≡ Differs 6) × (replayedCut 1 (8 ∷ 0 ∷ []) .refusal ≡ 15) × (replayedCut 1 (8 ∷ 0 ∷ 0 ∷ []) .refusal ≡ 14) × (checkedCut 20 (supplied 3 8 131) ≡ Refused 15)
-unfolding replayedCut checkedCut sheet log supplied orElse firstBelow someBelow filledBelow regrouped headerOf countOf editionOf intervalOf roundOf shareOf startOf sizeOf isWhole partOf recordFrom recordOf sheetRecord recordAt room tableOf outside wrongShare taken refusalOf recordRefusal recordsRefusal headerRefusal sheetRefusal sharedRefusal startRefusal isReleased isAbove isMarked hasOther cellAt eight isReady oneIf countBelow highest levelOf isAt topLevel topBackup runner entered runs ran faulted isLast isMissed ended gapAfter cellOf gains added unfinishedIn countsFrom withPriority byPriority machineOf cellsEntered runnerOf cellsRan tickGains tick ranOver countsOf isStrange isEarly someEarly isHasty tickRefusal ticksRefusal logRefusal replayRefusal replayAnswer shown startAnswer beforeBytes beforeLog beforeRecord holding breaking running differsWith ticked stepped followed refusalAt replayedAnswer checkedAnswer
+unfolding replayedCut checkedCut sheet log supplied orElse firstBelow someBelow filledBelow regrouped headerOf countOf editionOf intervalOf roundOf shareOf startOf sizeOf isWhole partOf recordFrom recordOf sheetRecord recordAt room tableOf outside wrongShare taken refusalOf recordRefusal recordsRefusal headerRefusal sheetRefusal sharedRefusal startRefusal isReleased isAbove isMarked hasOther cellAt eight isReady oneIf countBelow highest levelOf isAt topLevel topBackup runner entered runs ran faulted isLast isMissed ended gapAfter cellOf gains added unfinishedIn countsFrom withPriority byPriority machineOf cellsEntered runnerOf cellsRan tickGains tick ranOver countsOf isStrange isEarly someEarly isHasty tickRefusal ticksRefusal logRefusal replayRefusal replayAnswer shown startAnswer beforeBytes beforeLog beforeRecord holding breaking running differsWith ticked stepped followed tied tiedIn takenAnswer refusalAt replayedAnswer checkedAnswer
 pieces-worked = (refl, refl, refl, refl, refl, refl)

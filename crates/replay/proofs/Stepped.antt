@@ -6,14 +6,16 @@ use mathlib.Core.Logic.{inl, inr}
 use mathlib.Core.List.{List, [], _∷_, _++_}
 use borrow.Author.Tests.{eq-eqb, ne-eqb}
 use native.Mathlib.Omega.{arith}
+use lib.Dec.{eqb}
 use lib.ListN.{length, take, drop, length-drop, drop-of-length-le, take-append-drop}
 use lib.Seq.{drop-drop, length-take-le}
 use Rattle.replay.specs.declared.Counts.{Counts}
 use Rattle.replay.specs.declared.Following.{Following}
 use Rattle.replay.specs.declared.Checked.the-variants.{Refused, Accepted, Differs}
-use Rattle.replay.specs.Machines.{noMachine, countsOf}
+use Rattle.replay.specs.Machines.{noMachine, IsTied, countsOf}
 use Rattle.replay.specs.Rules.{tickRefusal}
-use Rattle.replay.specs.Pieces.{holding, breaking, running, differsWith, isRefused, ticked, afterTick, stepped, AtOnce, followed, refusalAt, replayedAnswer, checkedAnswer}
+use Rattle.replay.specs.Pieces.{holding, breaking, running, differsWith, isRefused, ticked, afterTick, stepped, AtOnce, followed, tiedIn, refusalAt, replayedAnswer, checkedAnswer}
+use Rattle.replay.proofs.Levels.{tied-tied, tied-same, tick-tied}
 use Rattle.replay.proofs.Answered.{none-counted}
 
 -- a whole tick
@@ -50,6 +52,36 @@ module _ (f : Following) (byte : ℕ) where
       pub step-ran : (f .holds ≡ 1 → ⊥) → stepped f byte ≡ afterTick f (f .releases) (f .faults) byte
       unfolding stepped
       step-ran third = simp (ne-eqb (f .holds) 0 later, supplied, ne-eqb (f .holds) 1 third)
+
+-- The ready levels of the machine that is kept
+pub tied-in : (f : Following) → IsTied (tiedIn f .machine)
+unfolding tiedIn
+tied-in f = tied-tied (f .machine)
+
+pub tied-in-same : (f : Following) → IsTied (f .machine) → tiedIn f ≡ f
+unfolding tiedIn
+tied-in-same f keeps =
+    λ i. record { «is_record» = f .«is_record»; start = f .start; broken = f .broken; machine = tied-same (f .machine) keeps i; same = f .same; differs = f .differs; holds = f .holds; releases = f .releases; faults = f .faults }
+
+tied-picked : (b : Bool) (f g : Following) → IsTied (f .machine) → IsTied (g .machine) → IsTied (cond b f g .machine)
+tied-picked true f g p q = p
+tied-picked false f g p q = q
+
+tick-keeps-tied : (f : Following) (releases faults ran : ℕ) → IsTied (f .machine) → IsTied (afterTick f releases faults ran .machine)
+unfolding ticked holding breaking running
+tick-keeps-tied f releases faults ran keeps =
+    tied-picked (isRefused f) _ _ keeps (tied-picked (eqb (tickRefusal (f .machine) releases faults) 0) _ _ (tick-tied (f .machine) releases faults) keeps)
+
+step-tied : (f : Following) (byte : ℕ) → IsTied (f .machine) → IsTied (stepped f byte .machine)
+unfolding stepped holding
+step-tied f byte keeps =
+    tied-picked (eqb (f .holds) 0) _ _ keeps
+    (tied-picked (f .«is_record») _ _ (tied-picked (eqb (f .holds) 1) _ _ keeps (tick-keeps-tied f (f .releases) (f .faults) byte keeps)) (tick-keeps-tied f (f .releases) byte byte keeps))
+
+pub bytes-tied : (f : Following) (bytes : List ℕ) → IsTied (f .machine) → IsTied (followed f bytes .machine)
+unfolding followed
+bytes-tied f [] keeps = keeps
+bytes-tied f (byte ∷ bytes) keeps = bytes-tied (stepped f byte) bytes (step-tied f byte keeps)
 
 -- two pieces one after the other are one
 pub pieces-joined : (f : Following) (a b : List ℕ) → followed f (a ++ b) ≡ followed (followed f a) b

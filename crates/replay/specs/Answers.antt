@@ -12,7 +12,7 @@ use Rattle.replay.specs.declared.Replayed.{Replayed}
 use Rattle.replay.specs.declared.Checked.{Checked}
 use Rattle.replay.specs.declared.Checked.the-variants.{Refused, Accepted, Differs}
 use Rattle.replay.specs.Counts.{noCounts}
-use Rattle.replay.specs.Machines.{machineOf, noMachine, ranOver, countsOf}
+use Rattle.replay.specs.Machines.{machineOf, noMachine, tied, ranOver, countsOf}
 use Rattle.replay.specs.Rules.{startRefusal, logRefusal}
 use Rattle.replay.specs.Shown.{matching, suppliedRefusal}
 
@@ -20,9 +20,9 @@ use Rattle.replay.specs.Shown.{matching, suppliedRefusal}
 unfoldable pub startAnswer : List ℕ → Run
 startAnswer sheet = record { refusal = startRefusal sheet; machine = cond (eqb (startRefusal sheet) 0) (machineOf (tableOf sheet)) noMachine }
 
--- `Machine::go_on`: the refusal of the part beside the machine after it, a machine of zeros where it is refused
+-- `Machine::go_on`: the refusal of the part beside the machine after it, its ready levels those of its jobs; a machine of zeros where it is refused
 unfoldable pub goOnAnswer : Machine → List ℕ → Run
-goOnAnswer m part = record { refusal = logRefusal m part; machine = cond (eqb (logRefusal m part) 0) (ranOver m part) noMachine }
+goOnAnswer m part = record { refusal = logRefusal m part; machine = cond (eqb (logRefusal m part) 0) (ranOver (tied m) part) noMachine }
 
 -- the refusal of a replay: the sheet's, then the log's
 unfoldable pub replayRefusal : List ℕ → List ℕ → ℕ

@@ -1,8 +1,19 @@
--- A set of numbers below n as the binary digits of one number: "The set of ready levels is kept as bits". An inner device, tied to the levels by laws.
+-- "The set of ready levels is kept as bits": a set of numbers as the binary digits of one number, and the set of ready levels.
 use Prim.Native.Nat.{ℕ, zero, suc, _+_, _*_, _^_}
 use mathlib.Core.Bool.{Bool}
-use Rattle.replay.specs.Cells.{oneIf}
+use mathlib.Core.List.{List}
+use Rattle.sheet.specs.declared.Record.{Record}
+use Rattle.sheet.specs.Places.{someBelow}
+use Rattle.sheet.specs.Layout.{recordAt}
+use Rattle.replay.specs.declared.Cell.{Cell}
+use Rattle.replay.specs.Cells.{cellAt, oneIf}
+use Rattle.replay.specs.Runner.{isAt}
 
+-- the numbers below n where the test holds, each a digit
 unfoldable pub bitsOf : (ℕ → Bool) → ℕ → ℕ
 bitsOf test zero = 0
 bitsOf test (suc n) = oneIf (test n) * 2 ^ n + bitsOf test n
+
+-- the levels of the ready jobs, level 1 the lowest bit and level 8 the highest
+unfoldable pub readyLevels : List Record → List Cell → ℕ
+readyLevels tasks cells = bitsOf (λ below. someBelow (isAt (recordAt tasks) (cellAt cells) (below + 1)) 8) 8

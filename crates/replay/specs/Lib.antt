@@ -1,7 +1,8 @@
--- What a reader of the crate's promises must believe, in the order of asks 1 and 7. `Positions` and `Totals` are what theorems speak of, and `Bits` is an inner device; no public promise cites them.
+-- What a reader of the crate's promises must believe, in the order of asks 1 and 7. `Positions` and `Totals` are what theorems speak of; no public promise cites them.
 pub mod Tick
 pub mod Cells
 pub mod Runner
+pub mod Bits
 pub mod Step
 pub mod Counts
 pub mod Machines
@@ -11,4 +12,3 @@ pub mod Answers
 pub mod Pieces
 pub mod Positions
 pub mod Totals
-pub mod Bits

@@ -1,5 +1,6 @@
 -- The machine: as a sheet's table sets it up, after one tick, and after a log. It holds no absolute time.
 use Prim.Native.Nat.{ℕ, zero, suc, _+_}
+use mathlib.Core.Path.{_≡_}
 use mathlib.Core.Bool.{cond}
 use mathlib.Core.List.{List, [], _∷_}
 use lib.Dec.{eqb}
@@ -15,6 +16,7 @@ use Rattle.replay.specs.declared.Machine.{Machine}
 use Rattle.replay.specs.Tick.{isMarked}
 use Rattle.replay.specs.Cells.{noCell, cellAt, eight}
 use Rattle.replay.specs.Runner.{runner}
+use Rattle.replay.specs.Bits.{readyLevels}
 use Rattle.replay.specs.Step.{entered, ran, faulted, ended, gapAfter}
 use Rattle.replay.specs.Counts.{gains, noTally, added, unfinishedIn, countsFrom}
 
@@ -29,11 +31,19 @@ byPriority records = filledBelow (λ place. withPriority (recordAt records) (pla
 
 -- the machine of a table before the first tick: no job, and every first release and fault is legal
 unfoldable pub machineOf : Table → Machine
-machineOf t = record { count = t .count; interval = t .interval; tasks = byPriority (t .records); cells = replicate 8 noCell; gap = 0; tally = noTally }
+machineOf t = record { count = t .count; interval = t .interval; tasks = byPriority (t .records); cells = replicate 8 noCell; ready = 0; gap = 0; tally = noTally }
 
 -- a machine of zeros
 abbrev pub noMachine : Machine
-noMachine = record { count = 0; interval = 0; tasks = replicate 8 noRecord; cells = replicate 8 noCell; gap = 0; tally = noTally }
+noMachine = record { count = 0; interval = 0; tasks = replicate 8 noRecord; cells = replicate 8 noCell; ready = 0; gap = 0; tally = noTally }
+
+-- "The set of ready levels is kept": a machine's ready levels are those of its jobs
+abbrev pub IsTied : Machine → Type 0
+IsTied m = m .ready ≡ readyLevels (m .tasks) (m .cells)
+
+-- a machine with the ready levels of its own jobs, whichever it was handed in with
+unfoldable pub tied : Machine → Machine
+tied m = record { count = m .count; interval = m .interval; tasks = m .tasks; cells = m .cells; ready = readyLevels (m .tasks) (m .cells); gap = m .gap; tally = m .tally }
 
 -- "Each tick: releases come in"
 unfoldable pub cellsEntered : Machine → ℕ → List Cell
@@ -47,6 +57,10 @@ runnerOf m releases = runner (recordAt (m .tasks)) (cellAt (cellsEntered m relea
 unfoldable pub cellsRan : Machine → ℕ → ℕ → List Cell
 cellsRan m releases faults = eight (faulted (recordAt (m .tasks)) (isMarked faults) (runnerOf m releases) (ran (runnerOf m releases) (cellAt (cellsEntered m releases))))
 
+-- the tick ends
+abbrev pub cellsEnded : Machine → ℕ → ℕ → List Cell
+cellsEnded m releases faults = eight (λ place. ended (cellAt (cellsRan m releases faults) place))
+
 -- what the tick adds to the counts
 unfoldable pub tickGains : Machine → ℕ → ℕ → Tally
 tickGains m releases faults = gains releases (runnerOf m releases) (cellsEntered m releases) (cellsRan m releases faults)
@@ -58,7 +72,8 @@ tick m releases faults =
       count = m .count;
       interval = m .interval;
       tasks = m .tasks;
-      cells = eight (λ place. ended (cellAt (cellsRan m releases faults) place));
+      cells = cellsEnded m releases faults;
+      ready = readyLevels (m .tasks) (cellsEnded m releases faults);
       gap = gapAfter (m .interval) (isMarked faults) (m .gap);
       tally = added (m .tally) (tickGains m releases faults);
     }

@@ -13,7 +13,7 @@ use Rattle.replay.specs.declared.Checked.{Checked}
 use Rattle.replay.specs.declared.Checked.the-variants.{Refused, Accepted, Differs}
 use Rattle.replay.specs.Cells.{oneIf}
 use Rattle.replay.specs.Counts.{wrapped, noCounts}
-use Rattle.replay.specs.Machines.{tick, countsOf}
+use Rattle.replay.specs.Machines.{tied, tick, countsOf}
 use Rattle.replay.specs.Rules.{tickRefusal}
 use Rattle.replay.specs.Shown.{shown}
 use Rattle.replay.specs.Answers.{startAnswer}
@@ -116,10 +116,29 @@ stepped f byte =
 abbrev pub AtOnce : Bool → ℕ → ℕ → Type 0
 AtOnce isRecord holds bytes = (bytes ≡ 1) ⊎ ((holds ≡ 0) × (bytes ≡ cond isRecord 3 2))
 
--- `following.take`: the bytes of a piece, one after the other
+-- the bytes of a piece, one after the other
 unfoldable pub followed : Following → List ℕ → Following
 followed f [] = f
 followed f (byte ∷ bytes) = followed (stepped f byte) bytes
+
+-- with the ready levels of the machine's own jobs
+unfoldable pub tiedIn : Following → Following
+tiedIn f =
+    record {
+      «is_record» = f .«is_record»;
+      start = f .start;
+      broken = f .broken;
+      machine = tied (f .machine);
+      same = f .same;
+      differs = f .differs;
+      holds = f .holds;
+      releases = f .releases;
+      faults = f .faults;
+    }
+
+-- `following.take`: the bytes of a piece, whatever ready levels are handed in
+unfoldable pub takenAnswer : Following → List ℕ → Following
+takenAnswer f piece = followed (tiedIn f) piece
 
 -- the refusal if no byte follows: the sheet's; 14 where a tick is not whole; then that of the ticks
 unfoldable pub refusalAt : Following → ℕ
@@ -136,7 +155,7 @@ checkedAnswer f = cond (eqb (refusalAt f) 0) (cond (f .differs) (Differs (f .sam
 -- Pieces one after the other, taken and joined. Theorems speak of them; no public promise does.
 unfoldable pub allTaken : Following → List (List ℕ) → Following
 allTaken f [] = f
-allTaken f (piece ∷ pieces) = allTaken (followed f piece) pieces
+allTaken f (piece ∷ pieces) = allTaken (takenAnswer f piece) pieces
 
 unfoldable pub joined : List (List ℕ) → List ℕ
 joined [] = []

@@ -1,5 +1,6 @@
 // What each tick of a supplier's record must show, and whether it does.
 ghost use mathlib.Core.Path.{_≡_};
+ghost use Rattle.replay.specs.Machines.{IsTied};
 ghost use Rattle.replay.specs.Shown.{shown, matching};
 ghost use Rattle.replay.specs.Answers.{compared, suppliedAnswer};
 use crate::Checked;
@@ -12,12 +13,14 @@ use crate::ticking;
 
 // What the machine's next tick must show: the priority of the task that runs, with the top bit set for a backup.
 pub fn shown(machine: Machine, releases: u8) -> u8
+    requires { ⌜ IsTied machine ⌝ }
     ensures { λ r. ⌜ r ≡ shown machine releases ⌝ }
 {
     let tasks = machine.tasks;
     let cells = machine.cells;
     let entered = phases::enter(tasks, cells, releases);
-    let priority = runner::runner(tasks, entered);
+    let ready = runner::kept_levels(machine.ready, releases != 0, tasks, entered);
+    let priority = runner::runner(tasks, entered, ready);
     let job = counting::cell_of(entered, priority);
     if job.is_backup {
         return priority + 128;
@@ -27,6 +30,7 @@ pub fn shown(machine: Machine, releases: u8) -> u8
 
 // How many ticks of a record, from its start, show what they must.
 fn matching(machine: Machine, supplied: &[u8]) -> u64
+    requires { ⌜ IsTied machine ⌝ }
     ensures { λ r. ⌜ r ≡ matching machine (now (supplied .entry)) ⌝ }
 {
     let mut machine = machine;
@@ -60,6 +64,7 @@ fn compared(refusal: u8, ticks: u64, same: u64) -> Checked
 
 // What a machine says of a record that starts with it.
 pub fn check_record(machine: Machine, supplied: &[u8]) -> Checked
+    requires { ⌜ IsTied machine ⌝ }
     ensures { λ r. ⌜ r ≡ suppliedAnswer machine (now (supplied .entry)) ⌝ }
 {
     if supplied.len() % 3 != 0 {

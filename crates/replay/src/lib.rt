@@ -4,7 +4,7 @@
 ghost use mathlib.Core.Path.{_≡_};
 ghost use Rattle.replay.specs.Machines.{countsOf};
 ghost use Rattle.replay.specs.Answers.{startAnswer, goOnAnswer, replayAnswer, checkAnswer};
-ghost use Rattle.replay.specs.Pieces.{beforeLog, beforeRecord, followed, replayedAnswer, checkedAnswer};
+ghost use Rattle.replay.specs.Pieces.{beforeLog, beforeRecord, takenAnswer, replayedAnswer, checkedAnswer};
 use sheet::Record;
 
 mod bits;
@@ -48,12 +48,14 @@ pub struct Counts {
 }
 
 // The machine between two ticks: the count of tasks, the fault interval, the tasks by priority (place k is priority k + 1), the cells of
-// the places, the ticks until the next legal fault, and what the ticks so far come to.
+// the places, the levels of their ready jobs as bits (level 8 the most significant), the ticks until the next legal fault, and what the
+// ticks so far come to. A call that runs ticks goes by the jobs, whatever levels it is handed.
 pub struct Machine {
     pub count: u8,
     pub interval: u16,
     pub tasks: [Record; 8],
     pub cells: [Cell; 8],
+    pub ready: u8,
     pub gap: u16,
     pub tally: Tally,
 }
@@ -122,7 +124,7 @@ impl Machine {
                 machine: ticking::no_machine(),
             };
         }
-        logs::go_over(self, part, 2)
+        logs::go_over(ticking::tied(self), part, 2)
     }
 
     // The seven counts of the ticks so far.
@@ -186,9 +188,9 @@ impl Following {
 
     // After a further piece, of any length.
     pub fn take(self, part: &[u8]) -> Following
-        ensures { λ r. ⌜ r ≡ followed self (now (part .entry)) ⌝ }
+        ensures { λ r. ⌜ r ≡ takenAnswer self (now (part .entry)) ⌝ }
     {
-        let mut following = self;
+        let mut following = pieces::tied(self);
         let mut at: usize = 0;
         while at < part.len() {
             let next = at

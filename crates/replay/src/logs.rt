@@ -2,6 +2,7 @@
 ghost use mathlib.Core.Path.{_≡_};
 ghost use Prim.Native.Nat.{_%_, _≤_};
 ghost use lib.ListN.{length};
+ghost use Rattle.replay.specs.Machines.{IsTied};
 ghost use Rattle.replay.specs.Shown.{logOf};
 ghost use Rattle.replay.specs.Answers.{goOnAnswer};
 use crate::Machine;
@@ -11,7 +12,7 @@ use crate::ticking;
 
 // The machine after whole ticks of so many bytes each, two or three, of which the first two are a log's: each is judged and then run.
 pub fn go_over(machine: Machine, bytes: &[u8], width: usize) -> Run
-    requires { ⌜ (2 ≤ width) × (width ≤ 3) × (length (now bytes) % width ≡ 0) ⌝ }
+    requires { ⌜ (2 ≤ width) × (width ≤ 3) × (length (now bytes) % width ≡ 0) × IsTied machine ⌝ }
     ensures { λ r. ⌜ r ≡ goOnAnswer machine (logOf width (now (bytes .entry))) ⌝ }
 {
     let mut machine = machine;

@@ -5,8 +5,9 @@ ghost use mathlib.Core.Bool.{cond, not, _&&_};
 ghost use lib.Dec.{eqb};
 ghost use lib.ListN.{length};
 ghost use Rattle.sheet.specs.Places.{orElse};
+ghost use Rattle.replay.specs.Machines.{IsTied};
 ghost use Rattle.replay.specs.Shown.{shown};
-ghost use Rattle.replay.specs.Pieces.{beforeBytes, running, afterTick, stepped, AtOnce, followed};
+ghost use Rattle.replay.specs.Pieces.{beforeBytes, running, afterTick, stepped, AtOnce, followed, tiedIn};
 use crate::Following;
 use crate::Machine;
 use crate::Run;
@@ -33,8 +34,18 @@ pub fn before_bytes(is_record: bool, started: Run) -> Following
     }
 }
 
+// With the ready levels of the machine's own jobs.
+pub fn tied(mut following: Following) -> Following
+    ensures { λ r. ⌜ r ≡ tiedIn following ⌝ }
+{
+    let machine = following.machine;
+    following.machine = ticking::tied(machine);
+    following
+}
+
 // Whether a tick of a record shows another byte than it must; one of a log shows none.
 fn is_other(is_record: bool, machine: Machine, releases: u8, ran: u8) -> bool
+    requires { ⌜ IsTied machine ⌝ }
     ensures { λ r. ⌜ r ≡ («is_record» && not (eqb ran (shown machine releases))) ⌝ }
 {
     if is_record {
@@ -45,6 +56,7 @@ fn is_other(is_record: bool, machine: Machine, releases: u8, ran: u8) -> bool
 
 // After the run of a tick, with which one has differed or none has.
 fn run(mut following: Following, releases: u8, faults: u8, differs: bool) -> Following
+    requires { ⌜ IsTied (following .machine) ⌝ }
     ensures { λ r. ⌜ r ≡ running following releases faults differs ⌝ }
 {
     let machine = following.machine;
@@ -56,6 +68,7 @@ fn run(mut following: Following, releases: u8, faults: u8, differs: bool) -> Fol
 
 // After a tick that is whole: it is judged, then compared and run, unless something before it is refused.
 fn tick(mut following: Following, releases: u8, faults: u8, ran: u8) -> Following
+    requires { ⌜ IsTied (following .machine) ⌝ }
     ensures { λ r. ⌜ r ≡ afterTick following releases faults ran ⌝ }
 {
     following.holds = 0;
@@ -80,6 +93,7 @@ fn tick(mut following: Following, releases: u8, faults: u8, ran: u8) -> Followin
 
 // After one byte more.
 fn step(mut following: Following, byte: u8) -> Following
+    requires { ⌜ IsTied (following .machine) ⌝ }
     ensures { λ r. ⌜ r ≡ stepped following byte ⌝ }
 {
     let holds = following.holds;
@@ -124,7 +138,7 @@ pub fn next_bytes(is_record: bool, holds: u8, room: usize) -> usize
 
 // After a whole tick where none is held, or one byte.
 pub fn go_on(following: Following, bytes: &[u8]) -> Following
-    requires { ⌜ AtOnce (following .«is_record») (following .holds) (length (now bytes)) ⌝ }
+    requires { ⌜ AtOnce (following .«is_record») (following .holds) (length (now bytes)) × IsTied (following .machine) ⌝ }
     ensures { λ r. ⌜ r ≡ followed following (now (bytes .entry)) ⌝ }
 {
     if bytes.len() == 1 {

@@ -1,13 +1,12 @@
 // Which job runs: the highest ready level, and who goes first at it.
 ghost use mathlib.Core.Path.{_≡_};
 ghost use Prim.Native.Nat.{_+_, _≤_, _<_};
-ghost use mathlib.Core.Bool.{cond, _&&_};
+ghost use mathlib.Core.Bool.{false, cond, _&&_};
 ghost use lib.Dec.{eqb};
-ghost use Rattle.sheet.specs.Places.{someBelow};
 ghost use Rattle.sheet.specs.Layout.{recordAt};
 ghost use Rattle.replay.specs.Cells.{cellAt, isReady};
-ghost use Rattle.replay.specs.Runner.{levelOf, isAt, topBackup, runner};
-ghost use Rattle.replay.specs.Bits.{bitsOf};
+ghost use Rattle.replay.specs.Runner.{levelOf, topBackup, runner};
+ghost use Rattle.replay.specs.Bits.{readyLevels};
 use crate::Cell;
 use crate::bits;
 use sheet::Record;
@@ -30,9 +29,9 @@ fn level_of(task: Record, place: usize, cell: Cell) -> u8
     (place + 1) as u8
 }
 
-// The set of ready levels.
-fn ready_levels(tasks: [Record; 8], cells: [Cell; 8]) -> u8
-    ensures { λ r. ⌜ r ≡ bitsOf (λ below. someBelow (isAt (recordAt tasks) (cellAt cells) (below + 1)) 8) 8 ⌝ }
+// The set of ready levels, gathered from the jobs.
+pub fn ready_levels(tasks: [Record; 8], cells: [Cell; 8]) -> u8
+    ensures { λ r. ⌜ r ≡ readyLevels tasks cells ⌝ }
 {
     let mut levels: u8 = 0;
     let mut place: usize = 0;
@@ -42,6 +41,17 @@ fn ready_levels(tasks: [Record; 8], cells: [Cell; 8]) -> u8
         place += 1;
     }
     levels
+}
+
+// The set of ready levels as it was, unless a job came or went: then it is gathered anew.
+pub fn kept_levels(ready: u8, has_changed: bool, tasks: [Record; 8], cells: [Cell; 8]) -> u8
+    requires { ⌜ («has_changed» ≡ false → ready ≡ readyLevels tasks cells) ⌝ }
+    ensures { λ r. ⌜ r ≡ readyLevels tasks cells ⌝ }
+{
+    if has_changed {
+        return ready_levels(tasks, cells);
+    }
+    ready
 }
 
 // Whether a place's job is a ready backup at the level.
@@ -84,11 +94,12 @@ fn top_backup(tasks: [Record; 8], cells: [Cell; 8], level: u8) -> u8
     highest
 }
 
-// The priority of the task that runs, or 0.
-pub fn runner(tasks: [Record; 8], cells: [Cell; 8]) -> u8
+// The priority of the task that runs, or 0, given the ready levels.
+pub fn runner(tasks: [Record; 8], cells: [Cell; 8], ready: u8) -> u8
+    requires { ⌜ ready ≡ readyLevels tasks cells ⌝ }
     ensures { λ r. ⌜ (r ≡ runner (recordAt tasks) (cellAt cells)) × (r ≤ 8) ⌝ }
 {
-    let level = bits::top(ready_levels(tasks, cells));
+    let level = bits::top(ready);
     let backup = top_backup(tasks, cells, level);
     if backup == 0 {
         return level;

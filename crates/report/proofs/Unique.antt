@@ -1,38 +1,40 @@
--- Each public call's promise leaves one answer and one content of the lent output: any two that it admits are equal. Assumes nothing.
+-- Each public call's promise leaves one answer and one content of the lent output: any two that its contract admits are equal. `Learnt` is the contract's own reading: lifetimes, arguments, result, parameters at exit. Assumes nothing.
 use mathlib.Core.Path.{_≡_}
-use mathlib.Core.List.{List}
 use Prim.Native.Nat.{ℕ}
+use contract.Lifetimes.{Lfts}
+use denote.Ref.{now}
 use Rattle.sheet.proofs.Unique.{both}
-use Rattle.analysis.specs.declared.Entry.{Entry}
 use Rattle.report.specs.declared.Line.{Line}
-use Rattle.mend.specs.declared.Change.{Change}
-use Rattle.report.specs.declared.Name.{Name}
-use Rattle.report.specs.declared.Saying.{Saying}
-use Rattle.report.specs.Texts.{lineOf, namedText, sayingText, taskText, passText, coreText, changeText, refusedAtText}
-use Rattle.report.specs.Pages.{putEnd, putLeaves}
+use Rattle.report.proofs.named_line.Reads as named
+use Rattle.report.proofs.saying_line.Reads as saying
+use Rattle.report.proofs.task_line.Reads as task
+use Rattle.report.proofs.pass_line.Reads as pass
+use Rattle.report.proofs.core_line.Reads as core
+use Rattle.report.proofs.change_line.Reads as change
+use Rattle.report.proofs.refused_at_line.Reads as refused-at
+use Rattle.report.proofs.put_line.Reads as put
 
-pub named-line-unique : (name : Name) (number : ℕ) (a b : Line) → a ≡ lineOf (namedText name number) → b ≡ lineOf (namedText name number) → a ≡ b
-named-line-unique name number a b = both
+pub named-line-unique : (κs : Lfts 0) (args : _) (a b : Line) (s u : _) → named.Learnt κs args a s → named.Learnt κs args b u → a ≡ b
+named-line-unique κs args a b s u = both
 
-pub saying-line-unique : (saying : Saying) (a b : Line) → a ≡ lineOf (sayingText saying) → b ≡ lineOf (sayingText saying) → a ≡ b
-saying-line-unique saying a b = both
+pub saying-line-unique : (κs : Lfts 0) (args : _) (a b : Line) (s u : _) → saying.Learnt κs args a s → saying.Learnt κs args b u → a ≡ b
+saying-line-unique κs args a b s u = both
 
-pub task-line-unique : (place : ℕ) (entry : Entry) (a b : Line) → a ≡ lineOf (taskText place entry) → b ≡ lineOf (taskText place entry) → a ≡ b
-task-line-unique place entry a b = both
+pub task-line-unique : (κs : Lfts 0) (args : _) (a b : Line) (s u : _) → task.Learnt κs args a s → task.Learnt κs args b u → a ≡ b
+task-line-unique κs args a b s u = both
 
-pub pass-line-unique : (count : ℕ) (choice : List ℕ) (a b : Line) → a ≡ lineOf (passText count choice) → b ≡ lineOf (passText count choice) → a ≡ b
-pass-line-unique count choice a b = both
+pub pass-line-unique : (κs : Lfts 0) (args : _) (a b : Line) (s u : _) → pass.Learnt κs args a s → pass.Learnt κs args b u → a ≡ b
+pass-line-unique κs args a b s u = both
 
-pub core-line-unique : (place core : ℕ) (a b : Line) → a ≡ lineOf (coreText place core) → b ≡ lineOf (coreText place core) → a ≡ b
-core-line-unique place core a b = both
+pub core-line-unique : (κs : Lfts 0) (args : _) (a b : Line) (s u : _) → core.Learnt κs args a s → core.Learnt κs args b u → a ≡ b
+core-line-unique κs args a b s u = both
 
-pub change-line-unique : (change : Change) (a b : Line) → a ≡ lineOf (changeText change) → b ≡ lineOf (changeText change) → a ≡ b
-change-line-unique change a b = both
+pub change-line-unique : (κs : Lfts 0) (args : _) (a b : Line) (s u : _) → change.Learnt κs args a s → change.Learnt κs args b u → a ≡ b
+change-line-unique κs args a b s u = both
 
-pub refused-at-line-unique : (refusal line column : ℕ) (a b : Line)
-    → a ≡ lineOf (refusedAtText refusal line column) → b ≡ lineOf (refusedAtText refusal line column) → a ≡ b
-refused-at-line-unique refusal line column a b = both
+pub refused-at-line-unique : (κs : Lfts 0) (args : _) (a b : Line) (s u : _) → refused-at.Learnt κs args a s → refused-at.Learnt κs args b u → a ≡ b
+refused-at-line-unique κs args a b s u = both
 
-pub put-line-unique : (line : Line) (out : List ℕ) (at a b : ℕ) (left left′ : List ℕ)
-    → (a ≡ putEnd line out at) × (left ≡ putLeaves line out at) → (b ≡ putEnd line out at) × (left′ ≡ putLeaves line out at) → (a ≡ b) × (left ≡ left′)
-put-line-unique line out at a b left left′ p q = (both (p .0) (q .0), both (p .1) (q .1))
+-- the output is the second parameter
+pub put-line-unique : (κs : Lfts 1) (args : _) (a b : ℕ) (s u : _) → put.Learnt κs args a s → put.Learnt κs args b u → (a ≡ b) × (now (s .1 .0) ≡ now (u .1 .0))
+put-line-unique κs args a b s u p q = (both (p .0) (q .0), both (p .1) (q .1))

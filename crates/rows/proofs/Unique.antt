@@ -1,59 +1,67 @@
--- Each public call's promise leaves one answer: any two that it admits are equal. What a call writes is no part of its answer. Assumes nothing.
+-- Each public call's promise leaves one answer: any two that its contract admits are equal. What a call writes is no part of its answer. `Learnt` is the contract's own reading: lifetimes, arguments, result, parameters at exit. Assumes nothing.
 use Prim.Native.Nat.{ℕ}
 use mathlib.Core.Path.{_≡_, ap}
-use mathlib.Core.List.{List, [], _∷_}
-use lib.Dec.{eqb}
-use lib.ListN as ListN
-use lib.ListN.{getD}
+use mathlib.Core.List.{List}
+use contract.Lifetimes.{Lfts}
+use lib.ListN.{length}
 use denote.Ref.{RefT}
 use Rattle.sheet.specs.declared.Table.{Table}
 use Rattle.sheet.proofs.Unique.{both, SamePart}
 use Rattle.rows.specs.declared.Tally.{Tally}
-use Rattle.rows.specs.Lists.{after, Next, First, figureOf}
-use Rattle.rows.specs.Answers.{said, numberSaid, bytesSaid}
-use Rattle.rows.specs.Tallies.{noRows, counted}
-use Rattle.rows.specs.Tables.{tableBy, choiceOf}
+use Rattle.rows.proofs.none.Reads as none
+use Rattle.rows.proofs.next.Reads as next
+use Rattle.rows.proofs.byte.Reads as byte
+use Rattle.rows.proofs.first.Reads as first
+use Rattle.rows.proofs.figure.Reads as figure
+use Rattle.rows.proofs.table.Reads as table
+use Rattle.rows.proofs.choice.Reads as choice
+use Rattle.rows.proofs.begin.Reads as begin
+use Rattle.rows.proofs.say.Reads as say
+use Rattle.rows.proofs.say_number.Reads as say-number
+use Rattle.rows.proofs.say_spaced.Reads as say-spaced
+use Rattle.rows.proofs.say_bytes.Reads as say-bytes
+use Rattle.rows.proofs.end.Reads as end
+use Rattle.rows.proofs.total.Reads as total
 
-pub none-unique : (a b : Tally) → a ≡ noRows → b ≡ noRows → a ≡ b
-none-unique a b = both
+pub none-unique : (κs : Lfts 0) (args : _) (a b : Tally) (s u : _) → none.Learnt κs args a s → none.Learnt κs args b u → a ≡ b
+none-unique κs args a b s u = both
 
-pub choice-unique : (number : ℕ) (a b : List ℕ) → a ≡ choiceOf number → b ≡ choiceOf number → a ≡ b
-choice-unique number a b = both
+pub next-unique : (κs : Lfts 1) (args : _) (a b : ℕ) (s u : _) → next.Learnt κs args a s → next.Learnt κs args b u → a ≡ b
+next-unique κs args a b s u p q = both (p .exact) (q .exact)
 
-pub total-unique : (tally : Tally) (a b : Unit {0}) → a ≡ tt → b ≡ tt → a ≡ b
-total-unique tally a b = both
+pub byte-unique : (κs : Lfts 1) (args : _) (a b : ℕ) (s u : _) → byte.Learnt κs args a s → byte.Learnt κs args b u → a ≡ b
+byte-unique κs args a b s u = both
 
-pub first-unique : (list : RefT (List ℕ)) (length : ℕ) (a b : RefT (List ℕ)) → First list length a → First list length b → SamePart a b
-first-unique list length a b p q =
-    record { block = both (p .block) (q .block); offset = both (p .offset) (q .offset); size = ap ListN.length (both (p .content) (q .content)); content = both (p .content) (q .content) }
+pub first-unique : (κs : Lfts 1) (args : _) (a b : RefT (List ℕ)) (s u : _) → first.Learnt κs args a s → first.Learnt κs args b u → SamePart a b
+first-unique κs args a b s u p q =
+    record { block = both (p .block) (q .block); offset = both (p .offset) (q .offset); size = ap length (both (p .content) (q .content)); content = both (p .content) (q .content) }
 
-module _ (list : List ℕ) where
-  pub next-unique : (start a b : ℕ) → Next list start a → Next list start b → a ≡ b
-  next-unique start a b p q = both (p .exact) (q .exact)
+pub figure-unique : (κs : Lfts 1) (args : _) (a b : ℕ) (s u : _) → figure.Learnt κs args a s → figure.Learnt κs args b u → a ≡ b
+figure-unique κs args a b s u = both
 
-  pub byte-unique : (place a b : ℕ) → a ≡ getD list place 0 → b ≡ getD list place 0 → a ≡ b
-  byte-unique place a b = both
+pub table-unique : (κs : Lfts 2) (args : _) (a b : Table) (s u : _) → table.Learnt κs args a s → table.Learnt κs args b u → a ≡ b
+table-unique κs args a b s u = both
 
-  pub figure-unique : (start which a b : ℕ) → a ≡ figureOf list start which → b ≡ figureOf list start which → a ≡ b
-  figure-unique start which a b = both
+pub choice-unique : (κs : Lfts 0) (args : _) (a b : List ℕ) (s u : _) → choice.Learnt κs args a s → choice.Learnt κs args b u → a ≡ b
+choice-unique κs args a b s u = both
 
-  pub table-unique : (base : List ℕ) (start first : ℕ) (a b : Table) → a ≡ tableBy base list start first → b ≡ tableBy base list start first → a ≡ b
-  table-unique base start first a b = both
+pub begin-unique : (κs : Lfts 1) (args : _) (a b : ℕ) (s u : _) → begin.Learnt κs args a s → begin.Learnt κs args b u → a ≡ b
+begin-unique κs args a b s u = both
 
-  pub begin-unique : (start a b : ℕ) → a ≡ after list (after list start 124) 124 → b ≡ after list (after list start 124) 124 → a ≡ b
-  begin-unique start a b = both
+pub say-unique : (κs : Lfts 2) (args : _) (a b : ℕ) (s u : _) → say.Learnt κs args a s → say.Learnt κs args b u → a ≡ b
+say-unique κs args a b s u = both
 
-  pub say-unique : (at : ℕ) (text : List ℕ) (a b : ℕ) → a ≡ said list at text → b ≡ said list at text → a ≡ b
-  say-unique at text a b = both
+pub say-number-unique : (κs : Lfts 1) (args : _) (a b : ℕ) (s u : _) → say-number.Learnt κs args a s → say-number.Learnt κs args b u → a ≡ b
+say-number-unique κs args a b s u = both
 
-  pub say-number-unique : (at value a b : ℕ) → a ≡ numberSaid list at value → b ≡ numberSaid list at value → a ≡ b
-  say-number-unique at value a b = both
+pub say-spaced-unique : (κs : Lfts 1) (args : _) (a b : ℕ) (s u : _) → say-spaced.Learnt κs args a s → say-spaced.Learnt κs args b u → a ≡ b
+say-spaced-unique κs args a b s u = both
 
-  pub say-spaced-unique : (at value a b : ℕ) → a ≡ numberSaid list (said list at (32 ∷ [])) value → b ≡ numberSaid list (said list at (32 ∷ [])) value → a ≡ b
-  say-spaced-unique at value a b = both
+pub say-bytes-unique : (κs : Lfts 2) (args : _) (a b : ℕ) (s u : _) → say-bytes.Learnt κs args a s → say-bytes.Learnt κs args b u → a ≡ b
+say-bytes-unique κs args a b s u = both
 
-  pub say-bytes-unique : (at : ℕ) (bytes : List ℕ) (a b : ℕ) → a ≡ bytesSaid list at bytes → b ≡ bytesSaid list at bytes → a ≡ b
-  say-bytes-unique at bytes a b = both
+pub end-unique : (κs : Lfts 1) (args : _) (a b : Tally) (s u : _) → end.Learnt κs args a s → end.Learnt κs args b u → a ≡ b
+end-unique κs args a b s u = both
 
-  pub end-unique : (tally : Tally) (end : ℕ) (a b : Tally) → a ≡ counted tally (eqb (getD list end 0) 10) → b ≡ counted tally (eqb (getD list end 0) 10) → a ≡ b
-  end-unique tally end a b = both
+pub total-unique : (κs : Lfts 0) (args : _) (a b : Unit {0}) (s u : _) → total.Learnt κs args a s → total.Learnt κs args b u → a ≡ b
+total-unique κs args a b s u = both

@@ -20,7 +20,7 @@ use Rattle.sheet.proofs.Turns.{none-of, next-of}
 use Rattle.analysis.specs.Tasks.{Tasks, ownChoice}
 use Rattle.analysis.specs.declared.Outcome.the-variants.{OnTime, Late}
 use Rattle.analysis.specs.Response.{responseTime, isLate, late, passes}
-use Rattle.analysis.specs.Answers.{outcomeOf, entryFrom, entryOf, ownTasks, timedRefusal, timedAnswer, choiceRefusal, assessmentOf, choiceAssessment, ownAssessment}
+use Rattle.analysis.specs.Answers.{outcomeOf, entryFrom, entryOf, ownTasks, timedRefusal, timedAnswer, choiceRefusal, assessed, choiceAssessment, ownAssessment}
 use Rattle.analysis.specs.Low.{low, lowWithin}
 use Rattle.analysis.proofs.Climbing.{Least, least-says}
 use Rattle.analysis.proofs.Demands.{passes-exactly}
@@ -187,9 +187,9 @@ module _ (sheet log : List ℕ) (not-refused : replayAnswer sheet log .refusal �
       finished-within-response = low-finished-within j below R (figure-value .0) (figure-value .1)
 
   -- "in which each q equals p and no task is late"
-  module _ (raised : EachRaised table) (withTimes : Bool) where
-    each-value : ownAssessment table withTimes .passes ≡ true → EachLow
-    unfolding ownAssessment choiceAssessment assessmentOf
+  module _ (raised : EachRaised table) where
+    each-value : ownAssessment table .passes ≡ true → EachLow
+    unfolding ownAssessment choiceAssessment assessed
     each-value verdict j below =
         let on-time = passes-exactly tasks .0 (yes-passes (eqb (choiceRefusal table (ownChoice table)) 0) (passes tasks) verdict) j below in
         let value = response-value j below (raised j below) on-time in
@@ -200,13 +200,13 @@ module _ (sheet log : List ℕ) (not-refused : replayAnswer sheet log .refusal �
         yes-passes false yes-or-no e = absurd (true≢false (sym e))
 
     -- "no job misses in any replay log that Ask 1 accepts, of any length": where the verdict of `assess` is yes, the count of missed jobs of `replay` is 0
-    pub no-job-missed : ownAssessment table withTimes .passes ≡ true → replayAnswer sheet log .counts .missed ≡ 0
+    pub no-job-missed : ownAssessment table .passes ≡ true → replayAnswer sheet log .counts .missed ≡ 0
     no-job-missed verdict = low-none-missed (each-value verdict)
 
     -- so a run that misses refutes the verdict
-    pub miss-refutes : (replayAnswer sheet log .counts .missed ≡ 0 → ⊥) → ownAssessment table withTimes .passes ≡ false
-    miss-refutes some = not-holds (ownAssessment table withTimes .passes) (λ verdict. some (no-job-missed verdict))
+    pub miss-refutes : (replayAnswer sheet log .counts .missed ≡ 0 → ⊥) → ownAssessment table .passes ≡ false
+    miss-refutes some = not-holds (ownAssessment table .passes) (λ verdict. some (no-job-missed verdict))
 
     -- and one tick of it that misses, without counting
-    pub tick-refutes : (place time : ℕ) → place < 8 → time < ticksOf log → missesAt start log place time ≡ true → ownAssessment table withTimes .passes ≡ false
-    tick-refutes place time below within miss = not-holds (ownAssessment table withTimes .passes) (λ verdict. true≢false (sym miss ∙ low-nowhere-missed (each-value verdict) place time below within))
+    pub tick-refutes : (place time : ℕ) → place < 8 → time < ticksOf log → missesAt start log place time ≡ true → ownAssessment table .passes ≡ false
+    tick-refutes place time below within miss = not-holds (ownAssessment table .passes) (λ verdict. true≢false (sym miss ∙ low-nowhere-missed (each-value verdict) place time below within))

@@ -1,7 +1,7 @@
 -- What is not claimed, by computation: under lowered fault priorities a sheet can pass and a job still miss. Assumes nothing.
 use Prim.Native.Nat.{ℕ}
 use mathlib.Core.Path.{_≡_, refl}
-use mathlib.Core.Bool.{true, false}
+use mathlib.Core.Bool.{true}
 use mathlib.Core.List.{List, [], _∷_}
 use Rattle.sheet.specs.Places.{orElse, firstBelow, someBelow, filledBelow}
 use Rattle.sheet.specs.Packing.{regrouped}
@@ -15,7 +15,7 @@ use Rattle.analysis.specs.Equations.{supplierOf, isBetween, struckElsewhere, st
 use Rattle.analysis.specs.Search.{firstFrom, leastWithin}
 use Rattle.analysis.specs.Response.{timeElsewhere, timeItself, responseWithin, responseTime, isLate, passes}
 use Rattle.analysis.specs.Allowed.{levelsOf, isAllowed, allAllowed}
-use Rattle.analysis.specs.Answers.{ownTasks, choiceRefusal, assessmentOf, choiceAssessment, ownAssessment}
+use Rattle.analysis.specs.Answers.{ownTasks, choiceRefusal, assessed, choiceAssessment, ownAssessment}
 use Rattle.analysis.specs.Low.{isOver, isAhead, backupAhead, low, lowWithin}
 use Rattle.replay.specs.Tick.{isReleased, isAbove, isMarked, hasOther}
 use Rattle.replay.specs.Cells.{cellAt, eight, isReady, oneIf, countBelow}
@@ -39,8 +39,8 @@ unfoldable pub log : List ℕ
 log = 4 ∷ 128 ∷ 0 ∷ 0 ∷ 0 ∷ 0 ∷ 2 ∷ 0 ∷ 0 ∷ 0 ∷ 0 ∷ 128 ∷ 0 ∷ 0 ∷ 0 ∷ 0 ∷ []
 
 -- the verdict is yes
-pub lowered-passes : ownAssessment (tableOf sheet) false .passes ≡ true
-unfolding sheet orElse firstBelow someBelow filledBelow regrouped headerOf countOf editionOf intervalOf roundOf shareOf startOf isWhole editionFor partOf recordFrom recordOf sheetRecord recordAt room tableOf outside wrongShare taken refusalOf recordRefusal recordsRefusal tableRefusal up sumBelow mostBelow faultAt ownChoice others everyone backupOf largestBackup backupElsewhere backupFromFault supplierOf isBetween struckElsewhere struckItself firstFrom leastWithin timeElsewhere timeItself responseWithin responseTime isLate passes levelsOf isAllowed allAllowed choiceRefusal assessmentOf choiceAssessment ownAssessment
+pub lowered-passes : ownAssessment (tableOf sheet) .passes ≡ true
+unfolding sheet orElse firstBelow someBelow filledBelow regrouped headerOf countOf editionOf intervalOf roundOf shareOf startOf isWhole editionFor partOf recordFrom recordOf sheetRecord recordAt room tableOf outside wrongShare taken refusalOf recordRefusal recordsRefusal tableRefusal up sumBelow mostBelow faultAt ownChoice others everyone backupOf largestBackup backupElsewhere backupFromFault supplierOf isBetween struckElsewhere struckItself firstFrom leastWithin timeElsewhere timeItself responseWithin responseTime isLate passes levelsOf isAllowed allAllowed choiceRefusal assessed choiceAssessment ownAssessment
 lowered-passes = refl
 
 -- the log is accepted, and one job is missed

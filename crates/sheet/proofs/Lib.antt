@@ -16,4 +16,5 @@ pub mod Difference
 pub mod Return
 pub mod Demands
 pub mod Refused
+pub mod Rows
 pub mod Unique

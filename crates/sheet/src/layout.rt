@@ -101,6 +101,14 @@ pub fn edition_for(round: u16, share: u16) -> u8
     if share == 1 { 0 } else { 1 }
 }
 
+// The priority that a record's nine bytes hold.
+pub fn priority_from(part: &[u8]) -> u8
+    requires { ⌜ length (now part) ≡ 9 ⌝ }
+    ensures { λ r. ⌜ r ≡ recordOf (now (part .entry)) .priority ⌝ }
+{
+    part[8] / 16
+}
+
 // The record that nine bytes hold.
 pub fn record_from(part: &[u8]) -> Record
     requires { ⌜ length (now part) ≡ 9 ⌝ }
@@ -111,7 +119,7 @@ pub fn record_from(part: &[u8]) -> Record
         backup: field(part, 2),
         deadline: field(part, 4),
         period: field(part, 6),
-        priority: part[8] / 16,
+        priority: priority_from(part),
         fault_priority: part[8] % 16,
     }
 }

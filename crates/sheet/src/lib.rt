@@ -52,8 +52,7 @@ pub fn judge(sheet: &[u8]) -> u8
     if refusal != 0 {
         return refusal;
     }
-    let count = layout::count(sheet);
-    rules::judge_records(layout::records_of(sheet, count), count)
+    rules::judge_parts(sheet, layout::count(sheet))
 }
 
 // The same for a table by value: rules 2, 5, 18 and 6 to 10.

@@ -1,10 +1,10 @@
-// The rules that sheets and tables are judged by, 1 to 10 and 18, as code: over a sheet's header, and over records by value.
+// The rules that sheets and tables are judged by, 1 to 10 and 18, as code: over a sheet's header, over the nine bytes of a record within the sheet, and over a table's records.
 // Which priorities earlier records have is kept as sixteen marks, one for each value of the sheet's four bits.
 ghost use mathlib.Core.Path.{_≡_};
 ghost use mathlib.Core.Bool.{true, false};
 ghost use Prim.Native.Nat.{_≤_};
-ghost use lib.ListN.{getD};
-ghost use Rattle.sheet.specs.Layout.{recordAt};
+ghost use lib.ListN.{length, getD};
+ghost use Rattle.sheet.specs.Layout.{editionOf, sizeOf, recordOf, sheetRecord, recordAt};
 ghost use Rattle.sheet.specs.Rules.{outside, wrongShare, refusalOf, headerRefusal, recordsRefusal};
 use crate::Record;
 use crate::layout;
@@ -70,8 +70,8 @@ fn is_marked(marks: [bool; 16], priority: u8) -> bool
     if level < 16 { marks[level] } else { false }
 }
 
-// Rules 6 to 10 for one record.
-fn judge_record(task: Record, count: u8, is_taken: bool) -> u8
+// Rules 6 to 10 on the fields of one record.
+fn judge_fields(task: Record, count: u8, is_taken: bool) -> u8
     ensures { λ r. ⌜ r ≡ refusalOf count «is_taken» task ⌝ }
 {
     if outside(task.cost, task.deadline) {
@@ -95,7 +95,39 @@ fn judge_record(task: Record, count: u8, is_taken: bool) -> u8
     0
 }
 
-// Rules 6 to 10 for each record below the count, in order; those past it are ignored.
+// Rules 6 to 10 for one record of a sheet, given its nine bytes from within the sheet.
+fn judge_record(part: &[u8], count: u8, is_taken: bool) -> u8
+    requires { ⌜ length (now part) ≡ 9 ⌝ }
+    ensures { λ r. ⌜ r ≡ refusalOf count «is_taken» (recordOf (now (part .entry))) ⌝ }
+{
+    judge_fields(layout::record_from(part), count, is_taken)
+}
+
+// Rules 6 to 10 for each record of a sheet of the right length, in order, part by part.
+pub fn judge_parts(sheet: &[u8], count: u8) -> u8
+    requires { ⌜ (count ≤ 8) × (length (now sheet) ≡ sizeOf (editionOf (now sheet)) count) ⌝ }
+    ensures { λ r. ⌜ r ≡ recordsRefusal count (sheetRecord (now (sheet .entry))) ⌝ }
+{
+    let first = layout::start(sheet);
+    let mut marks = [false; 16];
+    let mut place: usize = 0;
+    while place < count as usize {
+        let begin = first + 9 * place;
+        let end = begin + 9;
+        let part = &sheet[begin..end];
+        let priority = layout::priority_from(part);
+        let refusal = judge_record(part, count, is_marked(marks, priority));
+        if refusal != 0 {
+            return refusal;
+        }
+        let level = priority as usize;
+        marks[level] = true;
+        place += 1;
+    }
+    0
+}
+
+// The same for the records of a table, those past the count ignored.
 pub fn judge_records(records: [Record; 8], count: u8) -> u8
     requires { ⌜ count ≤ 8 ⌝ }
     ensures { λ r. ⌜ r ≡ recordsRefusal count (recordAt records) ⌝ }
@@ -104,7 +136,7 @@ pub fn judge_records(records: [Record; 8], count: u8) -> u8
     let mut place: usize = 0;
     while place < count as usize {
         let task = records[place];
-        let refusal = judge_record(task, count, is_marked(marks, task.priority));
+        let refusal = judge_fields(task, count, is_marked(marks, task.priority));
         if refusal != 0 {
             return refusal;
         }

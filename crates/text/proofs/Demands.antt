@@ -1,10 +1,11 @@
 -- The demands on text sheets in the request's words. Assumes nothing.
-use Prim.Native.Nat.{ℕ, _≤_}
-use mathlib.Core.Path.{_≡_, sym, ap, _∙_, subst}
+use Prim.Native.Nat.{ℕ, _+_, _≤_, _<_}
+use mathlib.Core.Path.{_≡_, refl, sym, ap, _∙_, subst}
 use mathlib.Core.Bool.{true}
-use mathlib.Core.Logic.{inl, inr}
+use mathlib.Core.Logic.{_⊎_, _↔_, inl, inr}
 use mathlib.Core.List.{List, [], _∷_, _++_}
 use native.Mathlib.Decide.{ℕ-discrete}
+use native.Mathlib.Omega.{arith}
 use borrow.Author.Tests.{eq-eqb, ne-eqb}
 use lib.ListN.{length, take, drop}
 use lib.Seq.{take-at}
@@ -12,6 +13,7 @@ use Rattle.sheet.specs.declared.Table.{Table}
 use Rattle.sheet.specs.Layout.{recordAt, cleared, tableOf, noTable}
 use Rattle.sheet.specs.Rules.{sheetRefusal, tableRefusal}
 use Rattle.sheet.proofs.Spelled.{Bytes}
+use Rattle.sheet.proofs.Tells.{told, shown, leb-tells, eqb-tells, or-tells, and-tells}
 use Rattle.sheet.proofs.Turns.{none-of}
 use Rattle.sheet.proofs.Cases.{good-sheet, good-table, table-records, outside-within}
 use Rattle.sheet.proofs.Agree.{records-agree, room-at}
@@ -20,7 +22,7 @@ use Rattle.sheet.proofs.Demands.{read-good, table-good, written-back}
 use Rattle.sheet.proofs.Return.{Wide, share-small, sized-at}
 use Rattle.text.specs.declared.Understood.{Understood}
 use Rattle.text.specs.declared.Scan.{Scan}
-use Rattle.text.specs.Kinds.{isBlank}
+use Rattle.text.specs.Kinds.{isBlank, isDigit}
 use Rattle.text.specs.Lines.{withLine}
 use Rattle.text.specs.Steps.{rowOf, scanStart, scanned}
 use Rattle.text.specs.Shown.{shownText, textSize}
@@ -122,6 +124,25 @@ comment-free a c b one =
     ap understood
     (scanned-joined scanStart (a ++ (35 ∷ c ++ (10 ∷ []))) b ∙ ap (λ (s : Scan). scanned s b) (scanned-joined scanStart a (35 ∷ c ++ (10 ∷ [])) ∙ same)
     ∙ sym (scanned-joined scanStart (a ++ (10 ∷ [])) b ∙ ap (λ (s : Scan). scanned s b) (scanned-joined scanStart a (10 ∷ []))))
+
+-- "fields apart by blanks, tabs, commas or semicolons": by these bytes, or the carriage return of a line's end, and by no other
+pub separators-exactly : (byte : ℕ) → (isBlank byte ≡ true) ↔ (((((byte ≡ 32) ⊎ (byte ≡ 9)) ⊎ (byte ≡ 44)) ⊎ (byte ≡ 59)) ⊎ (byte ≡ 13))
+unfolding isBlank
+separators-exactly byte =
+    let tells = or-tells (or-tells (or-tells (or-tells (eqb-tells byte 32) (eqb-tells byte 9)) (eqb-tells byte 44)) (eqb-tells byte 59)) (eqb-tells byte 13) in
+    (told tells, shown tells)
+
+-- the ten digits, and no other byte, make a number
+pub digits-exactly : (byte : ℕ) → (isDigit byte ≡ true) ↔ ((48 ≤ byte) × (byte < 48 + 10))
+unfolding isDigit
+digits-exactly byte =
+    let tells = and-tells (leb-tells 48 byte) (leb-tells byte 57) in
+    (λ e. omega (arith, told tells e), λ h. shown tells (omega arith))
+
+-- "A refusal returns its number with all other figures 0 ..; output buffers stay as they were": showing a table
+pub refused-shows-nothing : (t : Table) (out : List ℕ) → (showRefusal t out ≡ 0 → ⊥) → (showAnswer t out ≡ record { refusal = showRefusal t out; size = 0 }) × (showLeaves t out ≡ out)
+unfolding showAnswer showLeaves
+refused-shows-nothing t out refused = simp (ne-eqb (showRefusal t out) 0 refused) (refl, refl)
 
 -- "fields apart by blanks, tabs, commas or semicolons": one of them may stand for another
 pub separators-alike : (a b : List ℕ) (one other : ℕ) → isBlank one ≡ true → isBlank other ≡ true → readAnswer (a ++ (one ∷ b)) ≡ readAnswer (a ++ (other ∷ b))

@@ -78,6 +78,10 @@ texts =
     reads (50 ∷ 48 ∷ 48 ∷ 10 ∷ 50 ∷ 48 ∷ 32 ∷ 49 ∷ 57 ∷ 10 ∷ 49 ∷ 53 ∷ 32 ∷ 49 ∷ 32 ∷ 49 ∷ 48 ∷ 32 ∷ 50 ∷ 48 ∷ 32 ∷ 49 ∷ 48 ∷ 48 ∷ 32 ∷ 50 ∷ 48 ∷ 48 ∷ 10 ∷ []) (broken 9) ∷
     -- 200\n20 19\n16 1 10 20 100 200\n
     reads (50 ∷ 48 ∷ 48 ∷ 10 ∷ 50 ∷ 48 ∷ 32 ∷ 49 ∷ 57 ∷ 10 ∷ 49 ∷ 54 ∷ 32 ∷ 49 ∷ 32 ∷ 49 ∷ 48 ∷ 32 ∷ 50 ∷ 48 ∷ 32 ∷ 49 ∷ 48 ∷ 48 ∷ 32 ∷ 50 ∷ 48 ∷ 48 ∷ 10 ∷ []) (strange 31 3 1) ∷
+    -- a fault priority of 15 is understood, and 10 of the sheet; one of 16 is above its width: 200\n20 19\n1 15 10 20 100 200\n
+    reads (50 ∷ 48 ∷ 48 ∷ 10 ∷ 50 ∷ 48 ∷ 32 ∷ 49 ∷ 57 ∷ 10 ∷ 49 ∷ 32 ∷ 49 ∷ 53 ∷ 32 ∷ 49 ∷ 48 ∷ 32 ∷ 50 ∷ 48 ∷ 32 ∷ 49 ∷ 48 ∷ 48 ∷ 32 ∷ 50 ∷ 48 ∷ 48 ∷ 10 ∷ []) (broken 10) ∷
+    -- 200\n20 19\n1 16 10 20 100 200\n
+    reads (50 ∷ 48 ∷ 48 ∷ 10 ∷ 50 ∷ 48 ∷ 32 ∷ 49 ∷ 57 ∷ 10 ∷ 49 ∷ 32 ∷ 49 ∷ 54 ∷ 32 ∷ 49 ∷ 48 ∷ 32 ∷ 50 ∷ 48 ∷ 32 ∷ 49 ∷ 48 ∷ 48 ∷ 32 ∷ 50 ∷ 48 ∷ 48 ∷ 10 ∷ []) (strange 31 3 3) ∷
     -- 65,535 is understood, and 6 of the sheet; 65,536 is above its width: 200\n1 1 65535 20 100 200\n
     reads (50 ∷ 48 ∷ 48 ∷ 10 ∷ 49 ∷ 32 ∷ 49 ∷ 32 ∷ 54 ∷ 53 ∷ 53 ∷ 51 ∷ 53 ∷ 32 ∷ 50 ∷ 48 ∷ 32 ∷ 49 ∷ 48 ∷ 48 ∷ 32 ∷ 50 ∷ 48 ∷ 48 ∷ 10 ∷ []) (broken 6) ∷
     -- 200\n1 1 65536 20 100 200\n
@@ -88,6 +92,12 @@ texts =
     reads (50 ∷ 48 ∷ 48 ∷ 10 ∷ 49 ∷ 32 ∷ 49 ∷ 32 ∷ 116 ∷ 101 ∷ 110 ∷ 32 ∷ 50 ∷ 48 ∷ 32 ∷ 49 ∷ 48 ∷ 48 ∷ 32 ∷ 50 ∷ 48 ∷ 48 ∷ 10 ∷ []) (strange 30 2 5) ∷
     -- 200\n1 1 10 2x 100 200\n
     reads (50 ∷ 48 ∷ 48 ∷ 10 ∷ 49 ∷ 32 ∷ 49 ∷ 32 ∷ 49 ∷ 48 ∷ 32 ∷ 50 ∷ 120 ∷ 32 ∷ 49 ∷ 48 ∷ 48 ∷ 32 ∷ 50 ∷ 48 ∷ 48 ∷ 10 ∷ []) (strange 30 2 8) ∷
+    -- a colon, the byte after that of 9, is no digit, and a slash, the one before that of 0, is none: 20:\n
+    reads (50 ∷ 48 ∷ 58 ∷ 10 ∷ []) (strange 30 1 1) ∷
+    -- 20/\n
+    reads (50 ∷ 48 ∷ 47 ∷ 10 ∷ []) (strange 30 1 1) ∷
+    -- any other byte sets no two numbers apart: 200\n1|1|10|20|100|200\n
+    reads (50 ∷ 48 ∷ 48 ∷ 10 ∷ 49 ∷ 124 ∷ 49 ∷ 124 ∷ 49 ∷ 48 ∷ 124 ∷ 50 ∷ 48 ∷ 124 ∷ 49 ∷ 48 ∷ 48 ∷ 124 ∷ 50 ∷ 48 ∷ 48 ∷ 10 ∷ []) (strange 30 2 1) ∷
     -- -5\n
     reads (45 ∷ 53 ∷ 10 ∷ []) (strange 30 1 1) ∷
     -- cost 5\n
@@ -98,6 +108,10 @@ texts =
     reads (50 ∷ 48 ∷ 48 ∷ 32 ∷ 49 ∷ 10 ∷ []) (strange 32 1 5) ∷
     -- 200\n20 19 1\n
     reads (50 ∷ 48 ∷ 48 ∷ 10 ∷ 50 ∷ 48 ∷ 32 ∷ 49 ∷ 57 ∷ 32 ∷ 49 ∷ 10 ∷ []) (strange 32 2 7) ∷
+    -- a third after a share above 15: 200\n1 20 3\n
+    reads (50 ∷ 48 ∷ 48 ∷ 10 ∷ 49 ∷ 32 ∷ 50 ∷ 48 ∷ 32 ∷ 51 ∷ 10 ∷ []) (strange 32 2 6) ∷
+    -- and two numbers up to 15 begin a task: 200\n15 15 10\n
+    reads (50 ∷ 48 ∷ 48 ∷ 10 ∷ 49 ∷ 53 ∷ 32 ∷ 49 ∷ 53 ∷ 32 ∷ 49 ∷ 48 ∷ 10 ∷ []) (strange 33 2 9) ∷
     -- 200\n1 1 10 20 100 200 7\n
     reads (50 ∷ 48 ∷ 48 ∷ 10 ∷ 49 ∷ 32 ∷ 49 ∷ 32 ∷ 49 ∷ 48 ∷ 32 ∷ 50 ∷ 48 ∷ 32 ∷ 49 ∷ 48 ∷ 48 ∷ 32 ∷ 50 ∷ 48 ∷ 48 ∷ 32 ∷ 55 ∷ 10 ∷ []) (strange 32 2 19) ∷
     -- a number missing where the line, its comment or the text ends; a second line of two; no interval: 200\n1 1 10 20 100\n
@@ -120,7 +134,7 @@ texts =
 
 pub texts-read : All texts
 unfolding texts orElse firstBelow someBelow recordAt isWhole editionFor outside taken refusalOf recordRefusal recordsRefusal wrongShare tableRefusal isBlank isDigit kindOf numberAt withNumber isWide most limit startRefusal widthRefusal digitRefusal wordRefusal lineRefusal nextStage taskOf withInterval withShare withTask withLine after fieldColumn rowOf numberField wordField wordRow refusedAt onward lineRead byteRefusal refusalColumn byteRead kindRead step scanned judged endRefusal understood readAnswer
-texts-read = one refl (one refl (one refl (one refl (one refl (one refl (one refl (one refl (one refl (one refl (one refl (one refl (one refl (one refl (one refl (one refl (one refl (one refl (one refl (one refl (one refl (one refl (one refl (one refl (one refl (one refl (one refl (one refl (one refl (one refl (one refl (one refl (one refl (one refl none)))))))))))))))))))))))))))))))))
+texts-read = one refl (one refl (one refl (one refl (one refl (one refl (one refl (one refl (one refl (one refl (one refl (one refl (one refl (one refl (one refl (one refl (one refl (one refl (one refl (one refl (one refl (one refl (one refl (one refl (one refl (one refl (one refl (one refl (one refl (one refl (one refl (one refl (one refl (one refl (one refl (one refl (one refl (one refl (one refl (one refl (one refl none))))))))))))))))))))))))))))))))))))))))
 
 -- a task of document 01's Sheet A, whose two costs, and whose deadline and period, and whose two priorities are equal
 abbrev pub equal : ℕ → ℕ → ℕ → Record

@@ -1,27 +1,29 @@
--- Each public call's promise leaves one answer and one content of the lent output: any two that it admits are equal. Assumes nothing.
-use Prim.Native.Nat.{ℕ}
+-- Each public call's promise leaves one answer and one content of the lent output: any two that its contract admits are equal. `Learnt` is the contract's own reading: lifetimes, arguments, result, parameters at exit. Assumes nothing.
 use mathlib.Core.Path.{_≡_}
-use mathlib.Core.List.{List}
-use Rattle.sheet.specs.declared.Table.{Table}
+use contract.Lifetimes.{Lfts}
+use denote.Ref.{now}
 use Rattle.sheet.proofs.Unique.{both}
 use Rattle.text.specs.declared.Scan.{Scan}
 use Rattle.text.specs.declared.Understood.{Understood}
 use Rattle.text.specs.declared.Shown.{Shown}
-use Rattle.text.specs.Steps.{scanStart, scanned}
-use Rattle.text.specs.Answers.{understood, readAnswer, showAnswer, showLeaves}
+use Rattle.text.proofs.Scan.start.Reads as started
+use Rattle.text.proofs.Scan.take.Reads as taken
+use Rattle.text.proofs.Scan.finish.Reads as finished
+use Rattle.text.proofs.read.Reads as understood
+use Rattle.text.proofs.show.Reads as shown
 
-pub Scan-start-unique : (a b : Scan) → a ≡ scanStart → b ≡ scanStart → a ≡ b
-Scan-start-unique a b = both
+pub Scan-start-unique : (κs : Lfts 0) (args : _) (a b : Scan) (s u : _) → started.Learnt κs args a s → started.Learnt κs args b u → a ≡ b
+Scan-start-unique κs args a b s u = both
 
-pub Scan-take-unique : (s : Scan) (part : List ℕ) (a b : Scan) → a ≡ scanned s part → b ≡ scanned s part → a ≡ b
-Scan-take-unique s part a b = both
+pub Scan-take-unique : (κs : Lfts 1) (args : _) (a b : Scan) (s u : _) → taken.Learnt κs args a s → taken.Learnt κs args b u → a ≡ b
+Scan-take-unique κs args a b s u = both
 
-pub Scan-finish-unique : (s : Scan) (a b : Understood) → a ≡ understood s → b ≡ understood s → a ≡ b
-Scan-finish-unique s a b = both
+pub Scan-finish-unique : (κs : Lfts 0) (args : _) (a b : Understood) (s u : _) → finished.Learnt κs args a s → finished.Learnt κs args b u → a ≡ b
+Scan-finish-unique κs args a b s u = both
 
-pub read-unique : (text : List ℕ) (a b : Understood) → a ≡ readAnswer text → b ≡ readAnswer text → a ≡ b
-read-unique text a b = both
+pub read-unique : (κs : Lfts 1) (args : _) (a b : Understood) (s u : _) → understood.Learnt κs args a s → understood.Learnt κs args b u → a ≡ b
+read-unique κs args a b s u = both
 
-pub show-unique : (t : Table) (out : List ℕ) (a b : Shown) (left left′ : List ℕ)
-    → (a ≡ showAnswer t out) × (left ≡ showLeaves t out) → (b ≡ showAnswer t out) × (left′ ≡ showLeaves t out) → (a ≡ b) × (left ≡ left′)
-show-unique t out a b left left′ p q = (both (p .0) (q .0), both (p .1) (q .1))
+-- the output is the second parameter
+pub show-unique : (κs : Lfts 1) (args : _) (a b : Shown) (s u : _) → shown.Learnt κs args a s → shown.Learnt κs args b u → (a ≡ b) × (now (s .1 .0) ≡ now (u .1 .0))
+show-unique κs args a b s u p q = (both (p .0) (q .0), both (p .1) (q .1))

@@ -1,20 +1,29 @@
 -- `analysis::holds_within` meets its contract. Assumes nothing.
-use borrow.Author.Tests.{le-leb, lt-leb}
-use Rattle.analysis.specs.Bounds.{withinBounds}
+use mathlib.Core.Path.{sym, _∙_}
+use borrow.Author.Tests.{ne-eqb}
+use Rattle.analysis.specs.Bounds.{verdictOf, withinAnswer}
+use Rattle.analysis.proofs.Borne.{bounds-few}
 use borrow.Author.Needs.{needs}
 use Rattle.analysis.proofs.holds_within.Statement.{statement}
 use Rattle.analysis.proofs.holds_within.Tie as tie
 
+judge-requires : tie.Need-judge-requires
+judge-requires c κs = search needs
+
 returns : tie.Need-returns
-unfolding withinBounds
-returns c = simp (lt-leb (c .before .before .args .bounds .count) 8 (c .if1 .taken))
+unfolding withinAnswer verdictOf
+returns c =
+    let said = c .before .judge .ensures in
+    rw (← said) (simp (ne-eqb _ 0 (c .if1 .taken)))
 
 within-requires : tie.Need-within-requires
-within-requires c κs = search needs
+within-requires c κs = bounds-few _ _ (sym (c .before .judge .ensures) ∙ c .if1 .left)
 
 returns-2 : tie.Need-returns-2
-unfolding withinBounds
-returns-2 c = simp (le-leb (c .before .before .before .args .bounds .count) 8 (c .before .if1 .left), c .within .ensures)
+unfolding withinAnswer verdictOf
+returns-2 c =
+    let good = sym (c .before .before .judge .ensures) ∙ c .before .if1 .left in
+    simp (good, c .within .ensures)
 
 pub holds-within-spec : {M : Type 1} → statement M
-holds-within-spec = tie.close (tie.spec returns within-requires returns-2)
+holds-within-spec = tie.close (tie.spec judge-requires returns within-requires returns-2)

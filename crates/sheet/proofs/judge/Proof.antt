@@ -1,12 +1,9 @@
 -- `sheet::judge` meets its contract: the header's refusal, then the records'. Assumes nothing.
 use Prim.Native.Nat.{ℕ}
-use mathlib.Core.Path.{_≡_, sym, ap, ap₂, _∙_}
-use mathlib.Core.List.{List}
-use Rattle.sheet.specs.declared.Record.{Record}
-use Rattle.sheet.specs.Layout.{countOf, sheetRecord, recordAt, room}
+use mathlib.Core.Path.{_≡_, sym, ap, _∙_}
+use Rattle.sheet.specs.Layout.{sheetRecord}
 use Rattle.sheet.specs.Rules.{headerRefusal, recordsRefusal, sheetRefusal}
 use Rattle.sheet.proofs.Turns.{first-of, next-of}
-use Rattle.sheet.proofs.Agree.{records-agree, room-at}
 use Rattle.sheet.proofs.Cases.{GoodHeader, good-header}
 use borrow.Author.Needs.{needs}
 use Rattle.sheet.proofs.judge.Statement.{statement}
@@ -31,22 +28,17 @@ returns c =
 count-requires : tie.Need-count-requires
 count-requires c κs = good c .long
 
-records-of-requires : tie.Need-records-of-requires
-records-of-requires c κs = rw (c .count .ensures) (good (c .before) .count .1, good (c .before) .size)
-
-judge-records-requires : tie.Need-judge-records-requires
-judge-records-requires c κs = rw (c .before .count .ensures) (good (c .before .before) .count .1)
+judge-parts-requires : tie.Need-judge-parts-requires
+judge-parts-requires c κs = rw (c .count .ensures) (good (c .before) .count .1, good (c .before) .size)
 
 returns-2 : tie.Need-returns-2
 unfolding sheetRefusal
 returns-2 c =
-    let counted = c .before .before in
+    let counted = c .before in
     let sheet = counted .before .before .before .before .args .sheet .now in
-    c .judge-records .ensures ∙ ap₂ (λ (n : ℕ) (records : List Record). recordsRefusal n (recordAt records)) (counted .count .ensures) (c .before .records-of .ensures ∙ ap (room (sheetRecord sheet)) (counted .count .ensures))
-    ∙ records-agree (countOf sheet) (room-at (sheetRecord sheet) (countOf sheet) (good (counted .before) .count .1))
-    ∙ sym (next-of _ (passed (counted .before)))
+    c .judge-parts .ensures ∙ ap (λ (n : ℕ). recordsRefusal n (sheetRecord sheet)) (counted .count .ensures) ∙ sym (next-of _ (passed (counted .before)))
 
 pub judge-spec : {M : Type 1} → statement M
 judge-spec =
     tie.close
-    (tie.spec judge-header-requires returns count-requires records-of-requires judge-records-requires returns-2)
+    (tie.spec judge-header-requires returns count-requires judge-parts-requires returns-2)

@@ -22,7 +22,7 @@ inside : (c : tie.After-start) → c .start .result + 9 * c .before .before .bef
 inside c =
     let given = c .before .before .before .before in
     let good = good-place (given .args .sheet .now) (given .args .place) (passed (c .before)) in
-    rw (c .start .ensures) (part-end (given .args .sheet .now) _ _ (good .0 .size) (good .1))
+    part-end (given .args .sheet .now) _ _ (good .0 .size) (good .1) _ (c .start .ensures)
 
 judge-place-requires : tie.Need-judge-place-requires
 judge-place-requires c κs = search needs
@@ -63,8 +63,12 @@ unfolding partStart partBytes
 returns-2 c =
     let given = c .before .before .before .before .before in
     let good = passed (c .before .before) in
-    rw (c .before .start .ensures)
-    (record { block = refl; offset = simp good (add-comm (startOf (given .args .sheet .now) + 9 * given .args .place) (given .args .sheet .ptr .1)); content = simp good (part-at _ _) })
+    let begun = c .before .start .ensures in
+    record {
+      block = refl;
+      offset = simp (good, begun) (add-comm (startOf (given .args .sheet .now) + 9 * given .args .place) (given .args .sheet .ptr .1));
+      content = simp good (part-at _ _ _ begun);
+    }
 
 pub record-part-spec : {M : Type 1} → statement M
 record-part-spec =

@@ -15,7 +15,7 @@ unfolding foundBounds
 returns c =
     let columns = c .before .before .before .columns-of .ensures in
     let table = c .before .before .before .before .args .table in
-    λ j. record { count = table .count; priorities = columns .0 j; backups = columns .1 j; limits = c .limits-of .ensures j }
+    λ j. record { refusal = 0; count = table .count; priorities = columns .0 j; backups = columns .1 j; limits = c .limits-of .ensures j }
 
 pub found-spec : {M : Type 1} → statement M
 found-spec = tie.close (tie.spec columns-of-requires limits-of-requires returns)

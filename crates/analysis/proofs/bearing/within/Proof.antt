@@ -9,7 +9,7 @@ use lib.ListN.{getD}
 use Rattle.sheet.specs.Places.{someBelow}
 use Rattle.analysis.specs.declared.Bounds.{Bounds}
 use Rattle.analysis.specs.declared.Rule.{Rule}
-use Rattle.analysis.specs.Bounds.{below, belowLimits, withinAt}
+use Rattle.analysis.specs.Bounds.{below, belowLimits, withinAt, withinBounds}
 use Rattle.analysis.proofs.Verdicts.{some-more, some-found}
 use borrow.Author.Needs.{needs}
 use Rattle.analysis.proofs.bearing.within.Statement.{statement}
@@ -51,6 +51,7 @@ array-read-entry : tie.Need-array-read-entry Inv-loop μ-loop
 array-read-entry c = search needs
 
 returns : tie.Need-returns Inv-loop μ-loop
+unfolding withinBounds
 returns c =
     let at = c .before .before .loop in
     let args = c .before .before .before .before .before .before .args in
@@ -101,6 +102,7 @@ loop-again c =
     (omega arith, some-more (past (args .rule) (args .t1) (args .t2)) (at .loop .place) (at .loop .inv .1) (decided ∙ ap not (c .if2 .taken)))
 
 returns-2 : tie.Need-returns-2 Inv-loop μ-loop
+unfolding withinBounds
 returns-2 c =
     let low = c .before .before .before .before in
     let at = low .before .before in
@@ -109,6 +111,7 @@ returns-2 c =
     sym (ap not (some-found (past (args .rule) (args .t1) (args .t2)) (at .loop .place) (args .t1 .count) (low .before .loop-test .taken) (decided ∙ ap not (c .if2 .left))))
 
 returns-3 : tie.Need-returns-3 Inv-loop μ-loop
+unfolding withinBounds
 returns-3 c =
     let args = c .before .before .before .before .before .args in
     let all : c .before .loop .place ≡ args .t1 .count = omega arith in

@@ -1,6 +1,7 @@
 -- `choices::lowest::none_holds` meets its contract. Assumes nothing.
-use mathlib.Core.Path.{sym, _∙_}
+use mathlib.Core.Path.{sym, ap, _∙_}
 use mathlib.Core.Bool.{false≢true}
+use Rattle.analysis.specs.declared.Verdict.{Verdict}
 use Rattle.choices.proofs.LowestTask.{tested-none, hopeless-none}
 use Rattle.analysis.proofs.Judging.{rule-good}
 use borrow.Author.Needs.{needs}
@@ -24,7 +25,7 @@ is-hopeless-requires c κs = search needs
 returns-3 : tie.Need-returns-3
 returns-3 c is =
     let given = c .before .before .before .before .before in
-    hopeless-none (given .args .table) (given .args .rule) (given .pre) (sym (c .is-hopeless .ensures) ∙ is)
+    hopeless-none (given .args .table) (given .args .rule) (given .pre) (ap (λ (v : Verdict). v .yes) (sym (c .is-hopeless .ensures)) ∙ is)
 
 pub none-holds-spec : {M : Type 1} → statement M
 none-holds-spec =

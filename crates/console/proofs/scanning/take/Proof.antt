@@ -6,10 +6,10 @@ use Rattle.console.proofs.scanning.take.Statement.{statement}
 use Rattle.console.proofs.scanning.take.Tie as tie
 
 abbrev Inv-loop : tie.InvT-loop
-Inv-loop opened buffer₀ scan₀ turns₀ buffer scan turns = 65536 ≡ length buffer
+Inv-loop opened source buffer₀ scan₀ turns₀ buffer scan turns = 65536 ≡ length buffer
 
 abbrev μ-loop : tie.MeasureT-loop
-μ-loop opened buffer₀ scan₀ turns₀ buffer scan turns = turns
+μ-loop opened source buffer₀ scan₀ turns₀ buffer scan turns = turns
 
 large-buffer-requires : tie.Need-large-buffer-requires Inv-loop μ-loop
 large-buffer-requires c κs = search needs

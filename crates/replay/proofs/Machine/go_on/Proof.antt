@@ -1,7 +1,12 @@
 -- `replay::Machine::go_on` meets its contract. Assumes nothing.
+use mathlib.Core.Path.{sym, ap, subst, _∙_}
 use native.Mathlib.Omega.{arith}
+use Rattle.replay.specs.declared.Machine.{Machine}
+use Rattle.replay.specs.Machines.{IsTied}
 use Rattle.replay.specs.Shown.{logOf}
-use Rattle.replay.proofs.Going.{odd-refused, refused-answer}
+use Rattle.replay.specs.Answers.{goOnAnswer}
+use Rattle.replay.proofs.Levels.{tied-tied}
+use Rattle.replay.proofs.Going.{odd-refused, refused-answer, go-on-any}
 use borrow.Author.Needs.{needs}
 use Rattle.replay.proofs.Machine.go_on.Statement.{statement}
 use Rattle.replay.proofs.Machine.go_on.Tie as tie
@@ -14,12 +19,15 @@ returns c =
     let given = c .before .before .before .args in
     refused-answer (given .self) (given .part .now) 14 _ (c .no-machine .ensures) (odd-refused (given .self) (given .part .now) (c .before .if1 .taken)) (λ e. omega arith)
 
+tied-requires : tie.Need-tied-requires
+tied-requires c κs = search needs
+
 go-over-requires : tie.Need-go-over-requires
-go-over-requires c κs = (omega arith, omega arith, c .if1 .left)
+go-over-requires c κs = (omega arith, omega arith, c .before .if1 .left, subst IsTied (sym (c .tied .ensures)) (tied-tied _))
 
 returns-2 : tie.Need-returns-2
 unfolding logOf
-returns-2 c = c .go-over .ensures
+returns-2 c = c .go-over .ensures ∙ ap (λ (m : Machine). goOnAnswer m (c .before .before .before .before .args .part .now)) (c .before .tied .ensures) ∙ go-on-any _ _
 
 pub go-on-spec : {M : Type 1} → statement M
-go-on-spec = tie.close (tie.spec no-machine-requires returns go-over-requires returns-2)
+go-on-spec = tie.close (tie.spec no-machine-requires returns tied-requires go-over-requires returns-2)

@@ -10,10 +10,10 @@ returns : tie.Need-returns
 returns c = record-cut _ _ (c .if1 .taken)
 
 go-over-requires : tie.Need-go-over-requires
-go-over-requires c κs = (omega arith, omega arith, c .if1 .left)
+go-over-requires c κs = (omega arith, omega arith, c .if1 .left, c .before .before .pre)
 
 matching-requires : tie.Need-matching-requires
-matching-requires c κs = search needs
+matching-requires c κs = c .before .before .before .pre
 
 compared-requires : tie.Need-compared-requires
 compared-requires c κs = search needs

@@ -1,8 +1,10 @@
 -- `replay::checking::matching` meets its contract: before each turn the ticks so far are counted, and those to come from the machine so far. Assumes nothing.
 use Prim.Native.Nat.{_+_, _-_, _*_, _≤_, _<_}
-use mathlib.Core.Path.{_≡_, sym, _∙_}
+use mathlib.Core.Path.{_≡_, sym, subst, _∙_}
 use lib.ListN.{length, drop, length-drop}
+use Rattle.replay.specs.Machines.{IsTied}
 use Rattle.replay.specs.Shown.{matching}
+use Rattle.replay.proofs.Levels.{tick-tied}
 use Rattle.replay.proofs.Matched.{match-on, match-ends, match-short}
 use borrow.Author.Needs.{needs}
 use native.Mathlib.Omega.{arith}
@@ -10,7 +12,7 @@ use Rattle.replay.proofs.checking.matching.Statement.{statement}
 use Rattle.replay.proofs.checking.matching.Tie as tie
 
 abbrev Inv-loop : tie.InvT-loop
-Inv-loop supplied machine₀ tick₀ at₀ machine tick at = (3 * tick ≡ at) × (at ≤ length supplied) × (matching machine₀ supplied ≡ matching machine (drop at supplied) + tick)
+Inv-loop supplied machine₀ tick₀ at₀ machine tick at = (3 * tick ≡ at) × (at ≤ length supplied) × (matching machine₀ supplied ≡ matching machine (drop at supplied) + tick) × IsTied machine
 
 abbrev μ-loop : tie.MeasureT-loop
 μ-loop supplied machine₀ tick₀ at₀ machine tick at = length supplied - at
@@ -20,7 +22,7 @@ more : (c : tie.In-loop Inv-loop μ-loop) → c .before .loop .at + 3 ≤ length
 more c = omega (arith, c .before .loop .inv .1, c .loop-test .taken)
 
 loop-holds : tie.Need-loop-holds Inv-loop μ-loop
-loop-holds c = (omega arith, omega arith, omega arith)
+loop-holds c = (omega arith, omega arith, omega arith, c .before .pre)
 
 sub-loop : tie.Need-sub-loop Inv-loop μ-loop
 sub-loop c = c .loop .inv .1
@@ -43,7 +45,7 @@ shared-slice-read-if1 : tie.Need-shared-slice-read-if1 Inv-loop μ-loop
 shared-slice-read-if1 c = omega (arith, more (c .before .before .before))
 
 shown-requires : tie.Need-shown-requires Inv-loop μ-loop
-shown-requires c κs = search needs
+shown-requires c κs = c .before .before .before .before .loop .inv .3
 
 returns : tie.Need-returns Inv-loop μ-loop
 returns c =
@@ -52,7 +54,7 @@ returns c =
     omega (arith, at .inv .2, match-ends (at .machine) (turn .before .before .before .args .supplied .now) (at .at) (more turn) (λ e. c .if1 .taken (e ∙ sym (c .before .shown .ensures))))
 
 tick-requires : tie.Need-tick-requires Inv-loop μ-loop
-tick-requires c κs = search needs
+tick-requires c κs = c .before .before .before .before .before .before .loop .inv .3
 
 add-tick : tie.Need-add-tick Inv-loop μ-loop
 add-tick c =
@@ -74,7 +76,7 @@ loop-again c =
     let turn = c .before .before .before .before .before .before in
     let at = turn .before .loop in
     let on = match-on (at .machine) (turn .before .before .before .args .supplied .now) (at .at) (more turn) _ (c .before .if1 .left ∙ c .before .before .shown .ensures) (c .tick .ensures) in
-    (omega (arith, at .inv .0), more turn, omega (arith, at .inv .2, on))
+    (omega (arith, at .inv .0), more turn, omega (arith, at .inv .2, on), subst IsTied (sym (c .tick .ensures)) (tick-tied (at .machine) _ _))
 
 returns-2 : tie.Need-returns-2 Inv-loop μ-loop
 returns-2 c =

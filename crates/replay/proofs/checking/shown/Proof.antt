@@ -7,20 +7,22 @@ use Rattle.sheet.specs.Layout.{recordAt}
 use Rattle.replay.specs.declared.Cell.{Cell}
 use Rattle.replay.specs.Cells.{cellAt}
 use Rattle.replay.specs.Runner.{runner}
+use Rattle.replay.specs.Bits.{readyLevels}
 use Rattle.replay.specs.Counts.{cellOf}
 use Rattle.replay.specs.Machines.{cellsEntered, runnerOf}
 use Rattle.replay.specs.Shown.{shown}
+use Rattle.replay.proofs.Levels.{none-entered}
 use borrow.Author.Needs.{needs}
 use native.Mathlib.Nat.{add-zero}
 use Rattle.replay.proofs.checking.shown.Statement.{statement}
 use Rattle.replay.proofs.checking.shown.Tie as tie
 
 -- the task that runs and its job are the machine's
-said : (c : tie.After-cell-of) → c .before .runner .result + cond (c .cell-of .result .«is_backup») 128 0 ≡ shown (c .before .before .before .before .before .args .machine) (c .before .before .before .before .before .args .releases)
+said : (c : tie.After-cell-of) → c .before .runner .result + cond (c .cell-of .result .«is_backup») 128 0 ≡ shown (c .before .before .before .before .before .before .args .machine) (c .before .before .before .before .before .before .args .releases)
 unfolding cellsEntered runnerOf shown
 said c =
-    let m = c .before .before .before .before .before .args .machine in
-    let in-cells = c .before .before .enter .ensures in
+    let m = c .before .before .before .before .before .before .args .machine in
+    let in-cells = c .before .before .before .enter .ensures in
     let who = c .before .runner .ensures .0 ∙ ap (λ (l : List Cell). runner (recordAt (m .tasks)) (cellAt l)) in-cells in
     let job = c .cell-of .ensures ∙ (λ i. cellOf (in-cells i) (who i)) in
     λ i. who i + cond (job i .«is_backup») 128 0
@@ -28,8 +30,14 @@ said c =
 enter-requires : tie.Need-enter-requires
 enter-requires c κs = search needs
 
+kept-levels-requires : tie.Need-kept-levels-requires
+unfolding cellsEntered
+kept-levels-requires c κs none =
+    let start = c .before .before .before in
+    none-entered (start .args .machine) (start .args .releases) none (start .pre) ∙ ap (readyLevels (start .args .machine .tasks)) (sym (c .enter .ensures))
+
 runner-requires : tie.Need-runner-requires
-runner-requires c κs = search needs
+runner-requires c κs = c .kept-levels .ensures
 
 cell-of-requires : tie.Need-cell-of-requires
 cell-of-requires c κs = search needs
@@ -48,4 +56,4 @@ returns-2 c = sym (ap (λ (b : Bool). c .before .before .runner .result + cond b
 pub shown-spec : {M : Type 1} → statement M
 shown-spec =
     tie.close
-    (tie.spec enter-requires runner-requires cell-of-requires add-result returns returns-2)
+    (tie.spec enter-requires kept-levels-requires runner-requires cell-of-requires add-result returns returns-2)

@@ -1,10 +1,11 @@
 -- `replay::logs::go_over` meets its contract: before each turn the rest of the log from the machine so far is judged and run as the whole is from the start. Assumes nothing.
 use Prim.Native.Nat.{_+_, _-_, _≤_}
-use mathlib.Core.Path.{_≡_, refl, sym, _∙_}
+use mathlib.Core.Path.{_≡_, refl, sym, subst, _∙_}
 use lib.ListN.{length, drop, length-drop}
-use Rattle.replay.specs.Machines.{ranOver}
+use Rattle.replay.specs.Machines.{IsTied, ranOver}
 use Rattle.replay.specs.Rules.{ticksRefusal}
 use Rattle.replay.specs.Shown.{logOf}
+use Rattle.replay.proofs.Levels.{tick-tied}
 use Rattle.replay.proofs.Going.{held-even, held, held-none, ticks-broken, ticks-on, ran-on, even-ticks, refused-answer, passed-answer}
 use borrow.Author.Needs.{needs}
 use native.Mathlib.Omega.{arith}
@@ -13,7 +14,7 @@ use Rattle.replay.proofs.logs.go_over.Tie as tie
 
 abbrev Inv-loop : tie.InvT-loop
 Inv-loop bytes width machine₀ at₀ machine at =
-    (at ≤ length bytes) × (ticksRefusal machine (logOf width (drop at bytes)) ≡ ticksRefusal machine₀ (logOf width bytes)) × (ranOver machine (logOf width (drop at bytes)) ≡ ranOver machine₀ (logOf width bytes))
+    (at ≤ length bytes) × (ticksRefusal machine (logOf width (drop at bytes)) ≡ ticksRefusal machine₀ (logOf width bytes)) × (ranOver machine (logOf width (drop at bytes)) ≡ ranOver machine₀ (logOf width bytes)) × IsTied machine
 
 abbrev μ-loop : tie.MeasureT-loop
 μ-loop bytes width machine₀ at₀ machine at = length bytes - at
@@ -23,7 +24,7 @@ more : (c : tie.In-loop Inv-loop μ-loop) → c .before .loop .at + c .before .b
 more c = omega (arith, c .before .loop .inv .0, c .loop-test .taken)
 
 loop-holds : tie.Need-loop-holds Inv-loop μ-loop
-loop-holds c = (omega arith, refl, refl)
+loop-holds c = (omega arith, refl, refl, c .before .pre .3)
 
 sub-loop : tie.Need-sub-loop Inv-loop μ-loop
 sub-loop c = c .loop .inv .0
@@ -56,7 +57,7 @@ returns c =
     refused-answer (given .machine) log _ _ (c .no-machine .ensures) (even-ticks (given .machine) log (held-even (given .width) (asked .0) (asked .1) (given .bytes .now) (asked .2)) ∙ sym (at .inv .1) ∙ broken ∙ sym judged) (c .before .if1 .taken)
 
 tick-requires : tie.Need-tick-requires Inv-loop μ-loop
-tick-requires c κs = search needs
+tick-requires c κs = c .before .before .before .before .before .loop .inv .3
 
 add-at : tie.Need-add-at Inv-loop μ-loop
 add-at c =
@@ -77,6 +78,7 @@ loop-again c =
       more turn,
       ticks-on (at .machine) _ _ next _ (sym (c .before .before .judge-tick .ensures) ∙ c .before .if1 .left) (c .tick .ensures) ∙ at .inv .1,
       ran-on (at .machine) _ _ next _ (c .tick .ensures) ∙ at .inv .2,
+      subst IsTied (sym (c .tick .ensures)) (tick-tied (at .machine) _ _),
     )
 
 returns-2 : tie.Need-returns-2 Inv-loop μ-loop
@@ -87,7 +89,7 @@ returns-2 c =
     let asked = entry .pre in
     let log = logOf (given .width) (given .bytes .now) in
     let none = held-none (given .width) (asked .0) (asked .1) (at .machine) (drop (at .at) (given .bytes .now)) (omega (arith, length-drop (at .at) (given .bytes .now))) in
-    passed-answer (given .machine) log _ (even-ticks (given .machine) log (held-even (given .width) (asked .0) (asked .1) (given .bytes .now) (asked .2)) ∙ sym (at .inv .1) ∙ none .0) (sym (none .1) ∙ at .inv .2)
+    passed-answer (given .machine) log _ (asked .3) (even-ticks (given .machine) log (held-even (given .width) (asked .0) (asked .1) (given .bytes .now) (asked .2)) ∙ sym (at .inv .1) ∙ none .0) (sym (none .1) ∙ at .inv .2)
 
 pub go-over-spec : {M : Type 1} → statement M
 go-over-spec =

@@ -11,13 +11,13 @@ use Rattle.replay.proofs.pieces.go_on.Tie as tie
 
 -- the bytes of a whole tick are two at least
 more : (c : tie.Else1) → 2 ≤ length (c .before .before .args .bytes .now)
-more c = two-at-least (c .before .before .args .following .«is_record») (c .before .before .args .following .holds) _ (c .before .before .pre) (c .if1 .left)
+more c = two-at-least (c .before .before .args .following .«is_record») (c .before .before .args .following .holds) _ (c .before .before .pre .0) (c .if1 .left)
 
 shared-slice-read-step : tie.Need-shared-slice-read-step
 shared-slice-read-step c = search needs
 
 step-requires : tie.Need-step-requires
-step-requires c κs = search needs
+step-requires c κs = c .before .before .before .pre .1
 
 returns : tie.Need-returns
 returns c =
@@ -37,13 +37,13 @@ shared-slice-read-tick-3 : tie.Need-shared-slice-read-tick-3
 shared-slice-read-tick-3 c = omega (arith, more (c .before .before .before))
 
 tick-requires : tie.Need-tick-requires
-tick-requires c κs = search needs
+tick-requires c κs = c .before .before .before .before .before .pre .1
 
 returns-2 : tie.Need-returns-2
 returns-2 c =
     let entry = c .before .before .before .before .before .before in
     let given = entry .args in
-    let whole = whole-tick (given .following .«is_record») (given .following .holds) _ (entry .pre) (c .before .before .before .before .if1 .left) in
+    let whole = whole-tick (given .following .«is_record») (given .following .holds) _ (entry .pre .0) (c .before .before .before .before .if1 .left) in
     c .tick .ensures ∙ tick-taken (given .following) (whole .0) (given .bytes .now) (whole .1)
 
 pub go-on-spec : {M : Type 1} → statement M

@@ -4,7 +4,7 @@ use Rattle.replay.proofs.pieces.is_other.Statement.{statement}
 use Rattle.replay.proofs.pieces.is_other.Tie as tie
 
 shown-requires : tie.Need-shown-requires
-shown-requires c κs = search needs
+shown-requires c κs = c .before .pre
 
 returns : tie.Need-returns
 returns c = simp (c .before .if1 .taken, c .shown .ensures)

@@ -7,7 +7,7 @@ use Rattle.replay.proofs.pieces.run.Statement.{statement}
 use Rattle.replay.proofs.pieces.run.Tie as tie
 
 tick-requires : tie.Need-tick-requires
-tick-requires c κs = search needs
+tick-requires c κs = c .before .pre
 
 one-if-requires : tie.Need-one-if-requires
 one-if-requires c κs = search needs

@@ -17,7 +17,7 @@ returns-2 c =
     sym (step-faults (first .before .args .following) (first .before .args .byte) (first .if1 .left) (c .before .if2 .taken) (c .if3 .taken))
 
 tick-requires : tie.Need-tick-requires
-tick-requires c κs = search needs
+tick-requires c κs = c .before .before .before .pre
 
 returns-3 : tie.Need-returns-3
 unfolding holding
@@ -26,7 +26,7 @@ returns-3 c =
     c .tick .ensures ∙ sym (step-ran (first .before .args .following) (first .before .args .byte) (first .if1 .left) (c .before .before .if2 .taken) (c .before .if3 .left))
 
 tick-requires-2 : tie.Need-tick-requires-2
-tick-requires-2 c κs = search needs
+tick-requires-2 c κs = c .before .before .pre
 
 returns-4 : tie.Need-returns-4
 unfolding holding

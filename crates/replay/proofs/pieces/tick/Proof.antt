@@ -23,10 +23,10 @@ returns-2 c =
     ap (breaking cleared) judged ∙ sym (tick-broken cleared (given .releases) (given .faults) (given .ran) (c .before .before .before .if1 .left) (λ e. c .if2 .taken (judged ∙ e)))
 
 is-other-requires : tie.Need-is-other-requires
-is-other-requires c κs = search needs
+is-other-requires c κs = c .before .before .before .before .before .before .pre
 
 run-requires : tie.Need-run-requires
-run-requires c κs = search needs
+run-requires c κs = c .before .before .before .before .before .before .before .before .pre
 
 returns-3 : tie.Need-returns-3
 unfolding holding differsWith

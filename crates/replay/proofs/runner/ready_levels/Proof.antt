@@ -11,7 +11,7 @@ use Rattle.sheet.specs.Layout.{recordAt}
 use Rattle.replay.specs.declared.Cell.{Cell}
 use Rattle.replay.specs.Cells.{cellAt, oneIf}
 use Rattle.replay.specs.Runner.{isAt}
-use Rattle.replay.specs.Bits.{bitsOf}
+use Rattle.replay.specs.Bits.{bitsOf, readyLevels}
 use Rattle.replay.proofs.Turns.{some-more}
 use Rattle.replay.proofs.Binary.{bits-or}
 use borrow.Author.Needs.{needs}
@@ -75,6 +75,7 @@ loop-again c =
     (search needs, ap₂ bitOr (at .inv .1) level ∙ bits-or (present (given .t1) (given .t2) (at .place)) here 8 ∙ ap (λ (t : ℕ → Bool). bitsOf t 8) (fun-ext (λ below. sym (some-more (isAt (recordAt (given .t1)) (cellAt (given .t2)) (below + 1)) (at .place)))))
 
 returns : tie.Need-returns Inv-loop μ-loop
+unfolding readyLevels
 returns c =
     let given = c .before .before .args in
     let all : c .before .loop .place ≡ 8 = omega arith in

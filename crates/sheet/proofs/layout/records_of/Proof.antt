@@ -3,7 +3,7 @@ use Prim.Native.Nat.{ℕ, _+_, _*_, _-_, _≤_}
 use mathlib.Core.Path.{_≡_, sym, ap, ap₂, _∙_}
 use native.Mathlib.Omega.{arith}
 use mathlib.Core.List.{List}
-use lib.ListN.{length, set, take, drop, replicate}
+use lib.ListN.{length, set, replicate}
 use Rattle.sheet.specs.declared.Record.{Record}
 use Rattle.sheet.specs.Places.{filledBelow}
 use Rattle.sheet.specs.Layout.{sizeOf, recordOf, sheetRecord, noRecord, room}
@@ -31,7 +31,7 @@ inside : (c : tie.In-loop Inv-loop μ-loop) → c .before .before .start .result
 inside c =
     let begun = c .before .before in
     let given = begun .before .before .before in
-    rw (begun .start .ensures) (part-end (given .args .sheet .now) _ _ (given .pre .1) (c .loop-test .taken))
+    part-end (given .args .sheet .now) _ _ (given .pre .1) (c .loop-test .taken) _ (begun .start .ensures)
 
 loop-holds : tie.Need-loop-holds Inv-loop μ-loop
 unfolding filledBelow
@@ -60,7 +60,7 @@ record-from-requires c κs =
     let turn = c .before in
     let begun = turn .before .before in
     let given = begun .before .before .before in
-    rw (begun .start .ensures) (ap length (part-at _ _) ∙ part-nine (given .args .sheet .now) _ _ (given .pre .1) (turn .loop-test .taken))
+    ap length (part-at (given .args .sheet .now) _ _ (begun .start .ensures)) ∙ part-nine (given .args .sheet .now) _ _ (given .pre .1) (turn .loop-test .taken)
 
 mul-records : tie.Need-mul-records Inv-loop μ-loop
 mul-records c = search needs
@@ -80,11 +80,10 @@ loop-again c =
     let turn = c .before .before in
     let begun = turn .before .before in
     let sheet = begun .before .before .before .args .sheet .now in
-    let at = turn .before .loop in
-    let bytes : ℕ → List ℕ = λ first. take (first + 9 * at .place + 9 - (first + 9 * at .place)) (drop (first + 9 * at .place) sheet) in (
+    let at = turn .before .loop in (
       search needs,
       ap₂ (λ (l : List Record) (r : Record). set l (at .place) r) (at .inv .1)
-          (c .record-from .ensures ∙ ap (λ (first : ℕ). recordOf (bytes first)) (begun .start .ensures) ∙ ap recordOf (part-at sheet (at .place)))
+          (c .record-from .ensures ∙ ap recordOf (part-at sheet _ (at .place) (begun .start .ensures)))
           ∙ sym (fill-more (sheetRecord sheet) (at .place) (replicate 8 noRecord)),
     )
 

@@ -17,16 +17,16 @@ abbrev μ-loop : tie.MeasureT-loop
 μ-loop count records marks₀ place₀ marks place = count - place
 
 -- what was answered is the refusal of the record at the place
-judged : (c : tie.After-judge-record Inv-loop μ-loop)
+judged : (c : tie.After-judge-fields Inv-loop μ-loop)
     → let at = c .before .before .before .before .loop in
     let given = c .before .before .before .before .before in
     let task = recordAt (given .args .t1) (at .place) in
-    c .judge-record .result ≡ refusalOf (given .args .count) (getD (at .marks) (task .priority) false) task
+    c .judge-fields .result ≡ refusalOf (given .args .count) (getD (at .marks) (task .priority) false) task
 unfolding recordAt
 judged c =
     let at = c .before .before .before .before .loop in
     let given = c .before .before .before .before .before in
-    c .judge-record .ensures ∙ ap (λ (b : Bool). refusalOf (given .args .count) b (recordAt (given .args .t1) (at .place))) (c .before .is-marked .ensures)
+    c .judge-fields .ensures ∙ ap (λ (b : Bool). refusalOf (given .args .count) b (recordAt (given .args .t1) (at .place))) (c .before .is-marked .ensures)
 
 loop-holds : tie.Need-loop-holds Inv-loop μ-loop
 loop-holds c = judging-start _ _ (c .pre)
@@ -40,8 +40,8 @@ array-copy-out-task c = search needs
 is-marked-requires : tie.Need-is-marked-requires Inv-loop μ-loop
 is-marked-requires c κs = search needs
 
-judge-record-requires : tie.Need-judge-record-requires Inv-loop μ-loop
-judge-record-requires c κs = search needs
+judge-fields-requires : tie.Need-judge-fields-requires Inv-loop μ-loop
+judge-fields-requires c κs = search needs
 
 returns : tie.Need-returns Inv-loop μ-loop
 returns c =
@@ -87,7 +87,7 @@ judge-records-spec =
     mul-task
     array-copy-out-task
     is-marked-requires
-    judge-record-requires
+    judge-fields-requires
     returns
     cast-level
     array-write-marks

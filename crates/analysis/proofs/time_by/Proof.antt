@@ -1,0 +1,53 @@
+-- `analysis::time_by` meets its contract. Assumes nothing.
+use mathlib.Core.Path.{sym, subst, _∙_}
+use borrow.Author.Tests.{ne-eqb}
+use Rattle.sheet.proofs.Turns.{none-of}
+use Rattle.sheet.proofs.Cases.{place-below}
+use Rattle.analysis.specs.Allowed.{Within}
+use Rattle.analysis.specs.Judged.{ruleRefusal, placeRefusal, timedBy}
+use Rattle.analysis.proofs.Choice.{own-allowed}
+use Rattle.analysis.proofs.Judging.{rule-good}
+use borrow.Author.Needs.{needs}
+use Rattle.analysis.proofs.time_by.Statement.{statement}
+use Rattle.analysis.proofs.time_by.Tie as tie
+
+judge-record-place-requires : tie.Need-judge-record-place-requires
+judge-record-place-requires c κs = search needs
+
+no-entry-requires : tie.Need-no-entry-requires
+no-entry-requires c κs = search needs
+
+returns : tie.Need-returns
+unfolding timedBy
+returns c =
+    let refused = c .before .if1 .taken in
+    let given = c .before .before .judge-record-place .ensures in
+    rw (← given) (simp (ne-eqb _ 0 refused, c .no-entry .ensures))
+
+own-choice-requires : tie.Need-own-choice-requires
+own-choice-requires c κs = search needs
+
+ordered-requires : tie.Need-ordered-requires
+unfolding placeRefusal
+ordered-requires c κs =
+    let given = c .before .before .before in
+    rule-good _ _ (none-of (ruleRefusal (given .args .rule) (given .args .table)) _ (sym (c .before .before .judge-record-place .ensures) ∙ c .before .if1 .left) .0)
+
+entry-at-requires : tie.Need-entry-at-requires
+unfolding placeRefusal
+entry-at-requires c κs =
+    let given = c .before .before .before .before in
+    let table = given .args .table in
+    let good = none-of (ruleRefusal (given .args .rule) table) _ (sym (c .before .before .before .judge-record-place .ensures) ∙ c .before .before .if1 .left) in
+    (good .0, subst (Within table) (sym (c .before .own-choice .ensures)) (own-allowed table (rule-good _ table (good .0)) .each), c .ordered .ensures, place-below _ _ (good .1))
+
+returns-2 : tie.Need-returns-2
+unfolding timedBy
+returns-2 c =
+    let good = sym (c .before .before .before .before .judge-record-place .ensures) ∙ c .before .before .before .if1 .left in
+    simp (good, c .entry-at .ensures, c .before .before .own-choice .ensures)
+
+pub time-by-spec : {M : Type 1} → statement M
+time-by-spec =
+    tie.close
+    (tie.spec judge-record-place-requires no-entry-requires returns own-choice-requires ordered-requires entry-at-requires returns-2)
