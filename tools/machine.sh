@@ -1,15 +1,9 @@
 # shellcheck shell=sh
-# How the program and the library are built and run, and how C is compiled for them. The kit compiles for x86-64; on another machine
+# How the programs and the library are built and run, and how C is compiled for them. The kit compiles for x86-64; on another machine
 # tools/native compiles the same proved code for the machine itself.
 # Read by the scripts of this repository with '.', from its root.
 
-name=$(basename "$0")
-
-# Says what keeps the script from going on, and ends it.
-give_up() {
-    echo "$name: $*" >&2
-    exit 2
-}
+. tools/running.sh
 
 command -v rt >/dev/null 2>&1 || give_up "the Rattle kit's command rt is not on the PATH; README.md names the kit that this repository needs"
 
@@ -26,17 +20,25 @@ our_version() {
     sed -n 's/^#define FQ_VERSION "\(.*\)"$/\1/p' include/fidhaqooban.h
 }
 
-# Runs the program.
+# Prints our version and the kit's.
+versions() {
+    echo "fidhaqooban $(our_version)"
+    rt version
+}
+
+# Runs a program: judge or desk, WORDS.
 run_program() {
     (become_program "$@")
 }
 
 # The same in place of this shell.
 become_program() {
+    started=$programs/$1
+    shift
     if [ "$way" = native ]; then
-        exec "$program" "$@"
+        exec "$started" "$@"
     else
-        become_kits "$program" "$@"
+        become_kits "$started" "$@"
     fi
 }
 
@@ -44,30 +46,6 @@ become_program() {
 become_kits() {
     exec ${emulator:+"$emulator"} "$toolchain/lib/ld-linux-x86-64.so.2" --library-path "$toolchain/lib" "$@"
 }
-
-# Waits for a process, or a group of processes with a minus sign before its number, and ends it where this script is told to end.
-attended=''
-attend() {
-    attended=$1
-    wait "${1#-}"
-    attended_status=$?
-    attended=''
-    return "$attended_status"
-}
-
-# Ends what is attended, and then this script by the signal that told it to.
-stop() {
-    if [ -n "$attended" ]; then
-        kill -s TERM -- "$attended" 2>/dev/null
-        wait "${attended#-}"
-    fi
-    trap - "$1"
-    kill -s "$1" "$$"
-}
-for signal in HUP INT QUIT TERM; do
-    # shellcheck disable=SC2064
-    trap "stop $signal" "$signal"
-done
 
 # Whether there is a C compiler for this machine, after it was installed from Debian's packages where it was missing and root asks.
 find_c_compiler() {
@@ -124,12 +102,50 @@ make_built() {
     echo "$name: proving and building $built, which takes some minutes the first time" >&2
     rm -f "$mark"
     rt version >target/building
-    setsid "$@" >target/build.log 2>&1 </dev/null 9>&- &
-    if ! attend "-$!"; then
+    : >target/build.log
+    setsid "$@" >>target/build.log 2>&1 </dev/null 9>&- &
+    building=$!
+    shift "$(($# - 1))"
+    tell_progress "$building" "$1" </dev/null 9>&- &
+    telling=$!
+    ended=0
+    attend "-$building" || ended=$?
+    wait "$telling" || :
+    if [ "$ended" -ne 0 ]; then
         tail -n 5 target/build.log >&2
         give_up "$built could not be proved and built; $PWD/target/build.log says why"
     fi
     mv target/building "$mark"
+}
+
+# Tells of each crate that the build's log says is proved, as it comes: which, how many of how many, the seconds. PROCESS that builds, CRATE.
+tell_progress() {
+    all=$(crates_below "$2")
+    told=0
+    tail -n +1 -f -s 0.2 --pid="$1" target/build.log | while IFS= read -r line; do
+        case $line in
+        'rt: '*' proved ('*)
+            told=$((told + 1))
+            crate=${line#rt: }
+            took=${line##*\(}
+            echo "$name: ${crate%% *} proved ($told of $all, ${took%)})" >&2
+            ;;
+        esac
+    done
+}
+
+# How many crates of this repository a crate stands on, itself with them: CRATE.
+crates_below() {
+    awk -F: -v crate="$1" '
+        function visit(one, words, word) {
+            if (!(one in needs) || seen[one]++) return
+            count++
+            for (word = split(needs[one], words, " "); word > 0; word--) visit(words[word])
+        }
+        { sub(/#.*/, "") }
+        NF > 1 { needs[$1] = $2 }
+        END { visit(crate); print count }
+    ' crates.txt
 }
 
 # What is built, and the way in which it is run: on x86-64 as the kit builds it; elsewhere natively, as tools/native makes it of the kit's
@@ -141,13 +157,13 @@ elif ! find_c_compiler; then
     way=emulated
 fi
 if [ "$way" = native ]; then
-    program=$PWD/target/native/desk
+    programs=$PWD/target/native
     library=target/native/libfidhaqooban.a
-    build_program() { build "$program" tools/native desk; }
+    build_program() { build "$programs/$1" tools/native "$1"; }
     build_library() { build "$library" tools/native fidhaqooban; }
 else
-    program=$PWD/target/bin/desk
+    programs=$PWD/target/bin
     library=target/staticlib/libfidhaqooban.a
-    build_program() { build "$program" rt check desk; }
+    build_program() { build "$programs/$1" rt check "$1"; }
     build_library() { build "$library" rt staticlib fidhaqooban; }
 fi

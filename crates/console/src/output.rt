@@ -1,8 +1,8 @@
 // Lines gathered in a buffer and written to standard output.
-use crate::sheets;
-use crate::standing;
 use libc::STDOUT_FILENO;
 use report::Line;
+use streams::parts;
+use streams::standing;
 
 // Where the next line goes, or that the lines before it could not be written.
 pub enum Kept {
@@ -12,7 +12,7 @@ pub enum Kept {
 
 // Writes the lines gathered so far, which end at a place of the buffer, on a descriptor: whether they could be written.
 pub fn write_on(descriptor: i32, buffer: &[u8], end: usize) -> bool {
-    let length = sheets::part(end, buffer);
+    let length = parts::part(end, buffer);
     io::write_all(descriptor, &buffer[..length])
 }
 
@@ -41,20 +41,6 @@ pub fn finish(buffer: &mut [u8], end: usize, line: Line) -> bool {
     }
 }
 
-// Says why the answer could not be written.
-pub fn failed() -> u8 {
-    os::fail(b"desk: standard output");
-    standing::TROUBLE
-}
-
-// How a command ends whose lines were written, or not.
-pub fn ended(is_written: bool, standing: u8) -> u8 {
-    if is_written {
-        return standing;
-    }
-    failed()
-}
-
 // Writes one line.
 fn is_written(line: Line) -> bool {
     let mut buffer = io::buffer();
@@ -62,6 +48,6 @@ fn is_written(line: Line) -> bool {
 }
 
 // Writes a line that is the whole answer.
-pub fn line(line: Line, standing: u8) -> u8 {
-    ended(is_written(line), standing)
+pub fn line(line: Line, ending: u8) -> u8 {
+    standing::ended(is_written(line), ending)
 }

@@ -1,11 +1,11 @@
 // Refusals: the number's line on standard output, and the rule in words where that is asked for.
-use crate::explanation;
 use crate::output;
-use crate::sheets;
-use crate::sheets::Given;
-use crate::standing;
+use intake::explanation;
+use intake::sheets;
+use intake::sheets::Given;
 use report::Name;
 use sheet::Table;
+use streams::standing;
 
 // Prints a refusal's line.
 fn line(refusal: u8) -> u8 {

@@ -1,14 +1,13 @@
-// The commands: which one a word names, how many words it takes, and what carries it out.
-use crate::assuring;
-use crate::coring;
-use crate::judging;
-use crate::least;
-use crate::mending;
-use crate::releasing;
-use crate::replaying;
-use crate::texts;
-use console::words;
-use console::words::Asked;
+// The commands: which one a word names, and what carries it out.
+use console::judging;
+use records::mending;
+use records::replaying;
+use records::texts;
+use streams::words;
+use verdicts::assuring;
+use verdicts::coring;
+use verdicts::least;
+use verdicts::releasing;
 
 // The commands, and that a word is none of them.
 enum Command {
@@ -67,33 +66,11 @@ fn named_at(place: u8) -> Command {
     named(&word[..length])
 }
 
-// Judges the sheet that the one word names, or standard input where there is none.
-fn judge(asked: Asked) -> u8 {
-    if asked.count == 0 {
-        return judging::run(0, asked.is_explained);
-    }
-    if asked.count != 1 {
-        return words::trouble(
-            b"judge takes one SHEET at a time, and the first word is no other command",
-        );
-    }
-    judging::run(words::at(asked, 0), asked.is_explained)
-}
-
-// What was asked for from a place on.
-fn asked_from(first: u16, is_explained: bool) -> Asked {
-    Asked {
-        first,
-        count: words::count_from(first),
-        is_explained,
-    }
-}
-
 // Carries out the command that the argument at a place names; where it names none, the sheet there is judged.
 pub fn run(first: u8, is_explained: bool) -> u8 {
-    let asked = asked_from(first as u16 + 1, is_explained);
+    let asked = words::asked_from(first as u16 + 1, is_explained);
     match named_at(first) {
-        Command::Judge => judge(asked),
+        Command::Judge => judging::run(asked),
         Command::Interval => least::run(asked),
         Command::Replay => replaying::run(asked, false),
         Command::Check => replaying::run(asked, true),
@@ -103,6 +80,6 @@ pub fn run(first: u8, is_explained: bool) -> u8 {
         Command::Release => releasing::run(asked),
         Command::Write => texts::write(asked),
         Command::Show => texts::show(asked),
-        Command::Nothing => judge(asked_from(first as u16, is_explained)),
+        Command::Nothing => judging::run(words::asked_from(first as u16, is_explained)),
     }
 }

@@ -2,19 +2,9 @@
 // It reads, calls and writes; every figure and every byte of a line comes from the libraries below.
 // Its first argument may ask for more: `status` for how the command ended, as a digit on descriptor 3, and `explain` for that and for a
 // refusal in words on standard error.
-mod assuring;
 mod commands;
-mod coring;
-mod judging;
-mod least;
-mod mending;
-mod passing;
-mod releasing;
-mod replaying;
-mod responses;
-mod texts;
 
-use console::standing;
+use streams::standing;
 
 fn main() {
     let word = standing::asked();

@@ -1,0 +1,2 @@
+-- What the promises of intake say: of the sheet of an input.
+pub mod Inputs

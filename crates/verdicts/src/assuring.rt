@@ -1,0 +1,74 @@
+// `assured`: the assured time of each task, and every choice of fault priorities that holds in every run.
+use analysis::Entry;
+use analysis::Slack;
+use assured::Times;
+use console::output;
+use console::passing;
+use console::refusals;
+use intake::sheets;
+use sheet::Table;
+use streams::standing;
+use streams::words;
+use streams::words::Asked;
+
+// An assured time as the lines print it, which has no slack.
+fn untimed(given: assured::Entry) -> Entry {
+    let outcome = given.outcome;
+    Entry {
+        deadline: given.deadline,
+        outcome,
+        slack: Slack::NoFigure,
+    }
+}
+
+// Prints a line for each of so many tasks.
+fn print_times(count: u8, times: Times) -> bool {
+    let entries = times.entries;
+    let mut buffer = io::buffer();
+    let mut end: usize = 0;
+    let mut place: u8 = 0;
+    while place < 8 && place < count {
+        let entry = entries[place as usize];
+        end = report::put_line(report::task_line(place, untimed(entry)), &mut buffer, end);
+        place += 1;
+    }
+    output::write(&buffer, end)
+}
+
+// Prints every assured choice of a table.
+fn print_choices(table: Table) -> bool {
+    let mut list = [0u8; passing::ROOM];
+    let listing = assured::list(table, &mut list);
+    passing::print_list(table.count, &list, listing.entries)
+}
+
+// Prints the answer to a table.
+fn answer(table: Table, times: Times) -> u8 {
+    if print_times(table.count, times) {
+        if print_choices(table) {
+            return standing::of(times.assured);
+        }
+    }
+    standing::failed()
+}
+
+// Assures the sheet that the one word names.
+pub fn run(asked: Asked) -> u8 {
+    if asked.count != 1 {
+        return words::trouble(b"assured takes one word, SHEET");
+    }
+    let given = sheets::read(words::at(asked, 0));
+    if !given.is_read {
+        return standing::TROUBLE;
+    }
+    let reading = sheets::reading(given);
+    if reading.refusal != 0 {
+        return refusals::print_of(given, reading.refusal, asked.is_explained);
+    }
+    let table = reading.table;
+    let times = assured::assured_times(table);
+    if times.refusal != 0 {
+        return refusals::print(times.refusal, asked.is_explained);
+    }
+    answer(table, times)
+}
