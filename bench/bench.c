@@ -6,22 +6,23 @@
  */
 #define _POSIX_C_SOURCE 199309L
 
+#include "bounding.h"
+#include "climbing.h"
+#include "sheets.h"
+
+#include "../tests/format.h"
+
+#include <stdbool.h>
 #include <stdio.h>
 #include <stdlib.h>
 #include <string.h>
 #include <time.h>
 
-#include "bounding.h"
-#include "climbing.h"
-#include "fidhaqooban.h"
-#include "sheets.h"
-
-#define UNTOUCHED 0xA5
-#define DEADLINE_NUMBER 2
-#define PERIOD_NUMBER 3
-#define PRIORITY_NUMBER 4
-#define LOG_TICKS 10000
+/* How many elements an array has. */
 #define LENGTH(array) (sizeof(array) / sizeof((array)[0]))
+
+/* What fills an output before a call; some of a record's numbers, in the order in which fq_write takes them; the ticks of the log. */
+enum { UNTOUCHED = 0xA5, DEADLINE = 2, PERIOD = 3, PRIORITY = 4, LOG_TICKS = 10000 };
 
 /* The sides: the library, the baseline, C with the library's bounds and halving, and the baseline that asks the lowest task first, which one table has. */
 enum { LIBRARY, CLIMBING, BOUNDING, LOWEST_FIRST, SIDES };
@@ -81,6 +82,7 @@ struct table {
     struct effort effort;
 };
 
+/* By the response times. */
 static const struct side sides[SIDES] = {
     {"library", fq_judge, fq_rewrite, fq_response, fq_verdict, fq_least_interval, fq_next, fq_list, fq_replay},
     {"climbing C", climbing_judge, climbing_rewrite, climbing_response, climbing_verdict, climbing_least_interval,
@@ -100,8 +102,9 @@ static const struct side assured_sides[LOWEST_FIRST] = {
      bounding_assured_next, bounding_assured_list, climbing_replay},
 };
 
+/* What each side writes, and the log that is replayed. */
 static uint8_t outputs[SIDES][FQ_LIST_BYTES];
-static uint8_t busy_log[2 * LOG_TICKS];
+static uint8_t busy_log[LOG_TICK_BYTES * LOG_TICKS];
 
 /* Judges a sheet. */
 static int64_t use_judge(const struct side *side, const struct packed *sheet, uint8_t *out)
@@ -159,7 +162,6 @@ static int64_t use_walk(const struct side *side, const struct packed *sheet, uin
 {
     int64_t steps = 0;
     uint32_t choice = (uint32_t)side->next(sheet->bytes, sheet->len, 0);
-
     while (choice != 0) {
         memcpy(out + (size_t)steps * sizeof choice, &choice, sizeof choice);
         choice = (uint32_t)side->next(sheet->bytes, sheet->len, choice);
@@ -180,10 +182,11 @@ static void fill_log(void)
     for (size_t tick = 0; tick < LOG_TICKS; tick++) {
         for (size_t place = 0; place < everyday.count; place++) {
             const uint16_t *fields = everyday.fields + FQ_RECORD_NUMBERS * place;
-            if (tick % fields[PERIOD_NUMBER] == 0)
-                busy_log[2 * tick] |= (uint8_t)(1u << (fields[PRIORITY_NUMBER] - 1));
+            if (tick % fields[PERIOD] == 0) {
+                busy_log[LOG_TICK_BYTES * tick] |= (uint8_t)(1u << (fields[PRIORITY] - 1));
+            }
         }
-        busy_log[2 * tick + 1] = tick % everyday.interval == 0 ? 128 : 0;
+        busy_log[LOG_TICK_BYTES * tick + 1] = tick % everyday.interval == 0 ? FAULT_BIT : 0;
     }
 }
 
@@ -191,8 +194,7 @@ static void fill_log(void)
 static int64_t use_replay(const struct side *side, const struct packed *sheet, uint8_t *out)
 {
     uint64_t counts[FQ_COUNTS];
-    int64_t answer = side->replay(sheet->bytes, sheet->len, busy_log, 2 * LOG_TICKS, counts, FQ_COUNTS);
-
+    int64_t answer = side->replay(sheet->bytes, sheet->len, busy_log, sizeof busy_log, counts, FQ_COUNTS);
     memcpy(out, counts, sizeof counts);
     return answer;
 }
@@ -203,7 +205,6 @@ static int64_t use_refused(const struct side *side, const struct packed *sheet, 
     size_t len = sheet->len;
     size_t passing = (size_t)side->list(sheet->bytes, len, out, FQ_LIST_BYTES);
     uint64_t counts[FQ_COUNTS];
-
     memset(out, UNTOUCHED, FQ_LIST_BYTES);
     int64_t answers[] = {
         side->judge(sheet->bytes, 2),
@@ -212,9 +213,9 @@ static int64_t use_refused(const struct side *side, const struct packed *sheet, 
         side->response(sheet->bytes, len, sheet->count),
         side->next(sheet->bytes, len, 1),
         side->rewrite(sheet->bytes, len, out, len - 1),
-        side->list(sheet->bytes, len, out, 4 * passing - 1),
+        side->list(sheet->bytes, len, out, CHOICE_BYTES * passing - 1),
         side->replay(sheet->bytes, len, busy_log, 3, counts, FQ_COUNTS),
-        side->replay(sheet->bytes, len, busy_log, 2 * LOG_TICKS, counts, FQ_COUNTS - 1),
+        side->replay(sheet->bytes, len, busy_log, sizeof busy_log, counts, FQ_COUNTS - 1),
     };
     memcpy(out + FQ_LIST_BYTES - sizeof answers, answers, sizeof answers);
     return (int64_t)passing;
@@ -248,6 +249,7 @@ static struct row main_rows[] = {
     {.name = NAME ", n = 7", .use = USE, .sheet = &everyday, .count = 7}, \
     {.name = NAME ", n = 8", .use = USE, .sheet = &everyday, .count = 8}
 
+/* The second table. */
 static struct row growth_rows[] = {
     GROWTH("rewrite", use_rewrite),
     GROWTH("all responses", use_responses),
@@ -295,17 +297,20 @@ static struct row assured_rows[] = {
     {.name = "walk through all 720 of 6 tasks", .use = use_walk, .sheet = &everyday, .count = 6},
 };
 
+/* What is checked and not timed. */
 static struct row refused_rows[] = {{.name = "refused calls", .use = use_refused, .sheet = &everyday}};
 
 /* How the rows of a table are timed. */
 #define USUAL {3, 0.002, 0.4}
 #define SLOW {1, 0.002, 0.2}
 
+/* The refused calls by both rules. */
 static const struct table refused_calls[] = {
     {"Refused calls", sides, refused_rows, LENGTH(refused_rows), SIDES, USUAL},
     {"Refused calls for assured choices", assured_sides, refused_rows, LENGTH(refused_rows), LOWEST_FIRST, USUAL},
 };
 
+/* The tables that are printed. */
 static const struct table tables[] = {
     {"The calls", sides, main_rows, LENGTH(main_rows), LOWEST_FIRST, USUAL},
     {"Growth with the number of tasks n", sides, growth_rows, LENGTH(growth_rows), LOWEST_FIRST, USUAL},
@@ -319,7 +324,6 @@ static const struct table tables[] = {
 static double now(void)
 {
     struct timespec time;
-
     clock_gettime(CLOCK_PROCESS_CPUTIME_ID, &time);
     return (double)time.tv_sec + 1e-9 * (double)time.tv_nsec;
 }
@@ -329,12 +333,11 @@ static struct packed pack(const struct row *row)
 {
     struct sheet sheet = *row->sheet;
     struct packed packed = {.count = row->count != 0 ? row->count : sheet.count};
-
-    if (row->deadline != 0)
-        sheet.fields[FQ_RECORD_NUMBERS * row->place + DEADLINE_NUMBER] = row->deadline;
+    if (row->deadline != 0) {
+        sheet.fields[FQ_RECORD_NUMBERS * row->place + DEADLINE] = row->deadline;
+    }
     int64_t len = fq_write((uint8_t)packed.count, sheet.interval, sheet.fields, LENGTH(sheet.fields),
                            packed.bytes, sizeof packed.bytes);
-
     if (len <= 0) {
         fprintf(stderr, "the sheet of \"%s\" is refused\n", row->name);
         exit(1);
@@ -349,7 +352,6 @@ static void check_table(const struct table *table)
     for (struct row *row = table->rows; row < table->rows + table->count; row++) {
         struct packed sheet = pack(row);
         int64_t answers[SIDES];
-
         for (int side = 0; side < table->sides; side++) {
             memset(outputs[side], UNTOUCHED, FQ_LIST_BYTES);
             double start = now();
@@ -366,8 +368,9 @@ static void check_table(const struct table *table)
 /* Makes the calls of each of so many tables. */
 static void check(const struct table *some, size_t count)
 {
-    for (size_t index = 0; index < count; index++)
+    for (size_t index = 0; index < count; index++) {
         check_table(&some[index]);
+    }
 }
 
 /* Times the sides of a row of a table in turn, and keeps the shortest time of each, which sets how often to call next. */
@@ -377,45 +380,47 @@ static void measure(const struct table *table, struct row *row)
     int count = table->sides;
     struct packed sheet = pack(row);
     double end = now() + effort->all;
-
     for (int turn = 0; turn < count * effort->repetitions || turn % count != 0 || now() < end; turn++) {
         int side = turn % count;
         long calls = 1 + (long)(effort->each / (row->seconds[side] + 1e-9));
         double start = now();
-
-        for (long call = 0; call < calls; call++)
+        for (long call = 0; call < calls; call++) {
             row->use(&table->side[side], &sheet, outputs[side]);
+        }
         double seconds = (now() - start) / (double)calls;
-        if (seconds < row->seconds[side])
+        if (seconds < row->seconds[side]) {
             row->seconds[side] = seconds;
+        }
     }
 }
 
 /* Prints a time in a unit that suits it. */
 static void print_time(double seconds)
 {
-    if (seconds < 1e-6)
+    if (seconds < 1e-6) {
         printf(" %.0f ns |", seconds * 1e9);
-    else if (seconds < 1e-3)
+    } else if (seconds < 1e-3) {
         printf(" %.2f us |", seconds * 1e6);
-    else if (seconds < 1)
+    } else if (seconds < 1) {
         printf(" %.2f ms |", seconds * 1e3);
-    else
+    } else {
         printf(" %.2f s |", seconds);
+    }
 }
 
 /* Prints the head of a table: the library's time, and beside it that of each other side with the ratio to it. */
 static void print_head(const struct table *table)
 {
-    int reasons = table->rows->reason != NULL;
-
+    bool has_reasons = table->rows->reason != NULL;
     printf("\n## %s\n\n| Call | %s |", table->title, table->side[LIBRARY].name);
-    for (int side = CLIMBING; side < table->sides; side++)
+    for (int side = CLIMBING; side < table->sides; side++) {
         printf(" %s | ratio |", table->side[side].name);
-    printf("%s\n|---|---:|", reasons ? " why it is slow |" : "");
-    for (int side = CLIMBING; side < table->sides; side++)
+    }
+    printf("%s\n|---|---:|", has_reasons ? " why it is slow |" : "");
+    for (int side = CLIMBING; side < table->sides; side++) {
         printf("---:|---:|");
-    printf("%s\n", reasons ? "---|" : "");
+    }
+    printf("%s\n", has_reasons ? "---|" : "");
 }
 
 /* Measures and prints one table. */
@@ -431,8 +436,9 @@ static void print_table(const struct table *table)
             double ratio = row->seconds[LIBRARY] / row->seconds[side];
             printf(" %.*f |", ratio < 0.1 ? 5 : 2, ratio);
         }
-        if (row->reason != NULL)
+        if (row->reason != NULL) {
             printf(" %s |", row->reason);
+        }
         printf("\n");
         fflush(stdout);
     }
@@ -449,7 +455,8 @@ int main(int argc, char **argv)
     check(refused_calls, LENGTH(refused_calls));
     check(tables, LENGTH(tables));
     printf("%s Times are for one call; all sides gave the same answers and bytes.\n", argv[1]);
-    for (size_t index = 0; index < LENGTH(tables); index++)
+    for (size_t index = 0; index < LENGTH(tables); index++) {
         print_table(&tables[index]);
+    }
     return 0;
 }

@@ -1,135 +1,149 @@
 /* Walk, list and least interval from few searches, in C: what the method gains without the language. */
 #include "bounding.h"
+
 #include "climbs.h"
 
-#define LEVELS 9
-#define FEW 2
-#define FEW_RECORDS 4
+enum {
+    /* Room for something of each priority, at its number. */
+    BY_PRIORITY = FQ_MOST_TASKS + 1,
+    /* So many choices are tried before bounds are found, and up to so many records bounds are found at once. */
+    FEW_CHOICES = 2,
+    FEW_RECORDS = 4
+};
 
 /* For each priority, one more than the largest backup that its task bears: as M at 0, where the rule has one, as N at each fault priority. */
 struct bounds {
-    uint32_t limits[LEVELS][LEVELS];
+    uint32_t limits[BY_PRIORITY][BY_PRIORITY];
 };
 
-/* What a walk and a list go by: how a sheet is read, what a choice has to hold, the first level of the bounds, what a task bears at a level, and whether a choice is within the bounds. */
+/* What a walk and a list go by: how a sheet is read, what a choice has to meet, the first fault priority of the bounds, what a task bears at one, and whether a choice is within the bounds. */
 struct rule {
     reading *read;
-    holding *holds;
-    unsigned first_level;
-    int (*bears)(const struct table *, unsigned, unsigned, uint32_t);
-    int (*is_within)(const struct table *, const struct bounds *);
+    meeting *meets;
+    unsigned first_fault;
+    bool (*bears)(const struct table *, unsigned, unsigned, uint32_t);
+    bool (*is_within)(const struct table *, const struct bounds *);
 };
 
 /* Whether a task is on time with a largest backup. */
-static int bears(const struct table *table, unsigned own, unsigned level, uint32_t backup)
+static bool bears(const struct table *table, unsigned own, unsigned fault, uint32_t backup)
 {
-    return level == 0 ? elsewhere_with(table, own, backup) != 0 : itself_with(table, own, level, backup) != 0;
+    return fault == 0 ? elsewhere_with(table, own, backup) != 0 : itself_with(table, own, fault, backup) != 0;
 }
 
 /* Whether a task has an assured time with a largest backup. */
-static int bears_low(const struct table *table, unsigned own, unsigned level, uint32_t backup)
+static bool bears_assured(const struct table *table, unsigned own, unsigned fault, uint32_t backup)
 {
-    return low_with(table, own, level, backup) != 0;
+    return assured_with(table, own, fault, backup) != 0;
 }
 
 /* The limit of a task: the largest backup is tried first, and what is below the limit so far needs no search. */
-static uint32_t find_limit(const struct rule *rule, const struct table *table, unsigned own, unsigned level)
+static uint32_t find_limit(const struct rule *rule, const struct table *table, unsigned own, unsigned fault)
 {
     uint32_t largest = 0;
     uint32_t limit = 0;
-
-    for (unsigned priority = 1; priority <= table->count; priority++)
-        if (table->records[priority].backup > largest)
+    for (unsigned priority = 1; priority <= table->count; priority++) {
+        if (table->records[priority].backup > largest) {
             largest = table->records[priority].backup;
-    if (rule->bears(table, own, level, largest))
+        }
+    }
+    if (rule->bears(table, own, fault, largest)) {
         return largest + 1;
+    }
     for (unsigned priority = 1; priority <= table->count; priority++) {
         uint32_t backup = table->records[priority].backup;
-        if (limit <= backup && rule->bears(table, own, level, backup))
+        if (limit <= backup && rule->bears(table, own, fault, backup)) {
             limit = backup + 1;
+        }
     }
-    return limit == 0 && rule->bears(table, own, level, 0) ? 1 : limit;
+    return limit == 0 && rule->bears(table, own, fault, 0) ? 1 : limit;
 }
 
 /* Every limit. */
 static void find_bounds(const struct rule *rule, const struct table *table, struct bounds *bounds)
 {
-    for (unsigned own = 1; own <= table->count; own++)
-        for (unsigned level = rule->first_level; level <= own; level++)
-            bounds->limits[own][level] = find_limit(rule, table, own, level);
+    for (unsigned own = 1; own <= table->count; own++) {
+        for (unsigned fault = rule->first_fault; fault <= own; fault++) {
+            bounds->limits[own][fault] = find_limit(rule, table, own, fault);
+        }
+    }
 }
 
 /* Whether some task misses its own backup at its own priority, and so has no time under any choice. */
-static int is_hopeless(const struct rule *rule, const struct table *table)
+static bool is_hopeless(const struct rule *rule, const struct table *table)
 {
-    for (unsigned own = table->count; own > 0; own--)
-        if (!rule->bears(table, own, own, table->records[own].backup))
-            return 1;
-    return 0;
+    for (unsigned own = table->count; own > 0; own--) {
+        if (!rule->bears(table, own, own, table->records[own].backup)) {
+            return true;
+        }
+    }
+    return false;
 }
 
 /* Whether each task's M and N under the present choice are below its limits; the M of a task is known before it is put in. */
-static int is_within(const struct table *table, const struct bounds *bounds)
+static bool is_within(const struct table *table, const struct bounds *bounds)
 {
-    uint32_t tops[LEVELS] = {0};
-
+    uint32_t tops[BY_PRIORITY] = {0};
     for (unsigned own = table->count; own > 0; own--) {
         const struct record *record = &table->records[own];
-        if (tops[own] >= bounds->limits[own][0])
-            return 0;
-        for (unsigned level = record->fault_priority; level > 0 && tops[level] < record->backup; level--)
-            tops[level] = record->backup;
+        if (tops[own] >= bounds->limits[own][0]) {
+            return false;
+        }
+        for (unsigned fault = record->fault_priority; fault > 0 && tops[fault] < record->backup; fault--) {
+            tops[fault] = record->backup;
+        }
     }
     for (unsigned own = table->count; own > 0; own--) {
-        unsigned level = table->records[own].fault_priority;
-        if (tops[level] >= bounds->limits[own][level])
-            return 0;
+        unsigned fault = table->records[own].fault_priority;
+        if (tops[fault] >= bounds->limits[own][fault]) {
+            return false;
+        }
     }
-    return 1;
+    return true;
 }
 
-/* Whether each task's N of the assured times is below its limit: of the tasks above it at its level too, of those below it above that level only. */
-static int is_within_low(const struct table *table, const struct bounds *bounds)
+/* Whether each task's N of the assured times is below its limit: of the tasks above it at its fault priority too, of those below it above that only. */
+static bool is_within_assured(const struct table *table, const struct bounds *bounds)
 {
-    uint32_t tops[LEVELS + 1] = {0};
-
+    uint32_t tops[BY_PRIORITY + 1] = {0};
     for (unsigned own = table->count; own > 0; own--) {
         const struct record *record = &table->records[own];
-        unsigned level = record->fault_priority;
-        uint32_t limit = bounds->limits[own][level];
-        if (record->backup >= limit || tops[level] >= limit)
-            return 0;
-        for (; level > 0 && tops[level] < record->backup; level--)
-            tops[level] = record->backup;
+        unsigned fault = record->fault_priority;
+        uint32_t limit = bounds->limits[own][fault];
+        if (record->backup >= limit || tops[fault] >= limit) {
+            return false;
+        }
+        for (; fault > 0 && tops[fault] < record->backup; fault--) {
+            tops[fault] = record->backup;
+        }
     }
     for (unsigned own = table->count; own > 0; own--) {
-        unsigned level = table->records[own].fault_priority;
-        if (tops[level + 1] >= bounds->limits[own][level])
-            return 0;
+        unsigned fault = table->records[own].fault_priority;
+        if (tops[fault + 1] >= bounds->limits[own][fault]) {
+            return false;
+        }
     }
-    return 1;
+    return true;
 }
 
-static const struct rule passing = {read_sheet, passes, 0, bears, is_within};
-static const struct rule assured = {read_whole, is_assured, 1, bears_low, is_within_low};
+static const struct rule by_response = {read_sheet, passes, 0, bears, is_within};
+static const struct rule by_assured_time = {read_whole, is_assured, 1, bears_assured, is_within_assured};
 
-/* Writes the choices that hold, or only counts them where out is null. */
+/* Writes the choices within the bounds, or only counts them where out is null. */
 static size_t list_within(const struct rule *rule, struct table *table, const struct bounds *bounds, uint8_t *out)
 {
-    size_t entries = 0;
-
+    size_t choices = 0;
     set_first(table);
     do {
-        if (!rule->is_within(table, bounds))
+        if (!rule->is_within(table, bounds)) {
             continue;
-        if (out != NULL) {
-            uint32_t choice = pack_choice(table);
-            write_number(out + ENTRY_BYTES * entries, choice >> 16);
-            write_number(out + ENTRY_BYTES * entries + 2, choice);
         }
-        entries++;
+        if (out != NULL) {
+            write_choice(table, out, choices);
+        }
+        choices++;
     } while (set_following(table));
-    return entries;
+    return choices;
 }
 
 /* The least interval at which the sheet passes, 0 where there is none, or minus the refusal: what lies between is halved. */
@@ -137,86 +151,94 @@ int64_t bounding_least_interval(const uint8_t *sheet, size_t len)
 {
     struct table table;
     uint8_t refusal = read_sheet(sheet, len, &table);
-    uint32_t fails = 1;
-    uint32_t holds = MOST_INTERVAL + 1;
-
-    if (refusal != 0)
+    uint32_t failing = 1;
+    uint32_t passing = HIGHEST + 1;
+    if (refusal != 0) {
         return -refusal;
-    while (fails + 1 < holds) {
-        table.interval = (fails + holds) / 2;
-        if (passes(&table))
-            holds = table.interval;
-        else
-            fails = table.interval;
     }
-    return holds > MOST_INTERVAL ? 0 : holds;
+    while (failing + 1 < passing) {
+        table.interval = (failing + passing) / 2;
+        if (passes(&table)) {
+            passing = table.interval;
+        } else {
+            failing = table.interval;
+        }
+    }
+    return passing > HIGHEST ? 0 : passing;
 }
 
-/* The next choice that holds after any allowed one, 0 at the end, or minus the refusal; a few are tried before bounds are found. */
+/* The next choice that meets a rule after any allowed one, 0 at the end, or minus the refusal; a few are tried before bounds are found. */
 static int64_t next_choice(const struct rule *rule, const uint8_t *sheet, size_t len, uint32_t after)
 {
     struct table table;
     struct bounds bounds;
+    bool is_left;
+    unsigned few = FEW_CHOICES;
     uint8_t refusal = rule->read(sheet, len, &table);
-    unsigned few = FEW;
-    int left = 1;
-
-    if (refusal != 0)
-        return -refusal;
-    if (after == 0)
-        set_first(&table);
-    else if (!set_choice(&table, after))
-        return -REFUSED_CHOICE;
-    else
-        left = set_following(&table);
-    if (response(&table, LOWEST) == 0)
-        return 0;
-    for (; left && few > 0 && !rule->holds(&table); few--)
-        left = set_following(&table);
-    if (left && few == 0) {
-        if (is_hopeless(rule, &table))
-            return 0;
-        find_bounds(rule, &table, &bounds);
-        while (left && !rule->is_within(&table, &bounds))
-            left = set_following(&table);
+    if (refusal == 0) {
+        refusal = set_after(&table, after, &is_left);
     }
-    return left ? pack_choice(&table) : 0;
+    if (refusal != 0) {
+        return -refusal;
+    }
+    if (response(&table, LOWEST) == 0) {
+        return 0;
+    }
+    for (; is_left && few > 0 && !rule->meets(&table); few--) {
+        is_left = set_following(&table);
+    }
+    if (is_left && few == 0) {
+        if (is_hopeless(rule, &table)) {
+            return 0;
+        }
+        find_bounds(rule, &table, &bounds);
+        while (is_left && !rule->is_within(&table, &bounds)) {
+            is_left = set_following(&table);
+        }
+    }
+    return is_left ? pack_choice(&table) : 0;
 }
 
-/* Writes every choice that holds, and answers how many, or minus the refusal. */
+/* Writes every choice that meets a rule, and answers how many, or minus the refusal. */
 static int64_t list_sheet(const struct rule *rule, const uint8_t *sheet, size_t len, uint8_t *out, size_t out_len)
 {
     struct table table;
     struct bounds bounds;
     uint8_t refusal = rule->read(sheet, len, &table);
-
-    if (refusal != 0)
+    if (refusal != 0) {
         return -refusal;
-    if (response(&table, LOWEST) == 0 || (table.count > FEW_RECORDS && is_hopeless(rule, &table)))
+    }
+    if (response(&table, LOWEST) == 0 || (table.count > FEW_RECORDS && is_hopeless(rule, &table))) {
         return 0;
+    }
     find_bounds(rule, &table, &bounds);
-    if (out_len < ENTRY_BYTES * count_choices(table.count)
-        && out_len < ENTRY_BYTES * list_within(rule, &table, &bounds, NULL))
-        return -REFUSED_ROOM;
+    if (out_len < CHOICE_BYTES * count_choices(table.count)
+        && out_len < CHOICE_BYTES * list_within(rule, &table, &bounds, NULL)) {
+        return -FQ_SHORT_OUTPUT;
+    }
     return (int64_t)list_within(rule, &table, &bounds, out);
 }
 
+/* The next passing choice. */
 int64_t bounding_next(const uint8_t *sheet, size_t len, uint32_t after)
 {
-    return next_choice(&passing, sheet, len, after);
+    return next_choice(&by_response, sheet, len, after);
 }
 
+/* The passing choices. */
 int64_t bounding_list(const uint8_t *sheet, size_t len, uint8_t *out, size_t out_len)
 {
-    return list_sheet(&passing, sheet, len, out, out_len);
+    return list_sheet(&by_response, sheet, len, out, out_len);
 }
 
+/* The next assured choice. */
 int64_t bounding_assured_next(const uint8_t *sheet, size_t len, uint32_t after)
 {
-    return next_choice(&assured, sheet, len, after);
+    return next_choice(&by_assured_time, sheet, len, after);
 }
 
+/* The assured choices. */
 int64_t bounding_assured_list(const uint8_t *sheet, size_t len, uint8_t *out, size_t out_len)
 {
-    return list_sheet(&assured, sheet, len, out, out_len);
+    return list_sheet(&by_assured_time, sheet, len, out, out_len);
 }

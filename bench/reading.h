@@ -2,13 +2,9 @@
 #ifndef READING_H
 #define READING_H
 
-#include <stddef.h>
-#include <stdint.h>
+#include "../tests/format.h"
 
-#define MOST_TASKS 8
-#define HEADER_BYTES 3
-#define SHARED_HEADER_BYTES 7
-#define RECORD_BYTES 9
+#include <stdbool.h>
 
 /* One task; its priority is its index in the table. */
 struct record {
@@ -19,14 +15,14 @@ struct record {
     uint8_t fault_priority;
 };
 
-/* A good sheet: the tasks by priority (entry 0 is unused), and the priority found at each place. */
+/* A good sheet: the tasks by priority (none is at 0), and the priority found at each place. */
 struct table {
     unsigned count;
     uint32_t interval;
     uint32_t round;
     uint32_t share;
-    uint8_t priority_at[MOST_TASKS];
-    struct record records[MOST_TASKS + 1];
+    uint8_t priority_at[FQ_MOST_TASKS];
+    struct record records[FQ_MOST_TASKS + 1];
 };
 
 /* Writes a number as two bytes, the first byte highest. */
@@ -34,6 +30,9 @@ void write_number(uint8_t *bytes, uint32_t number);
 
 /* How many bytes the header of a table's sheet has. */
 size_t header_bytes(const struct table *table);
+
+/* Whether the processor is shared. */
+bool is_shared(const struct table *table);
 
 /* Reads a whole sheet, and answers the first rule that it breaks, or 0. */
 uint8_t read_sheet(const uint8_t *sheet, size_t len, struct table *table);

@@ -5,26 +5,29 @@
  * From the repository's root, on x86-64:
  *
  *     rt staticlib fidhaqooban
- *     gcc -Iinclude -o example examples/ask_for_a_lock.c target/staticlib/libfidhaqooban.a && ./example
+ *     gcc -std=c11 -Iinclude -o example examples/ask_for_a_lock.c target/staticlib/libfidhaqooban.a && ./example
  */
-#include "fidhaqooban.h"
+#include <fidhaqooban.h>
 
 #include <inttypes.h>
 #include <stdbool.h>
 #include <stdio.h>
 
 /* The resources of the board, and its two sporadic tasks by priority. */
-enum { CONVERTER, NOTE_STORE, RESOURCES = 8 };
+enum { CONVERTER, NOTE_STORE };
 enum { LOG_TASK = 1, RADIO_TASK = 2 };
 
-enum { PERIOD = 40, JOBS = 2 };
+/* The control period and its jobs; where the holders begin, after a byte of users for each resource. */
+enum { PERIOD = 40, JOBS = 2, HOLDERS = FQ_RESOURCES_BYTES / 2 };
 
 /* Request 9's table: offset and length of each job. */
-static const uint32_t starts[JOBS * FQ_JOB_NUMBERS] = {
+static const uint32_t STARTS[JOBS * FQ_JOB_NUMBERS] = {
     5, 6,  /* sample the pressure */
     20, 3, /* sample the voltage, over the converter */
 };
-static const uint8_t uses[JOBS] = {0, 1 << CONVERTER};
+
+/* The resources that each job uses. */
+static const uint8_t USES[JOBS] = {0, 1 << CONVERTER};
 
 /* Both tasks use both resources; nobody holds one yet. */
 static uint8_t resources[FQ_RESOURCES_BYTES] = {
@@ -36,7 +39,7 @@ static uint8_t resources[FQ_RESOURCES_BYTES] = {
 static bool take(uint8_t priority, uint64_t time, uint8_t resource, uint32_t length)
 {
     int64_t margin;
-    int64_t answer = fq_grant(PERIOD, JOBS, starts, JOBS * FQ_JOB_NUMBERS, uses, JOBS, resources, sizeof resources, priority,
+    int64_t answer = fq_grant(PERIOD, JOBS, STARTS, JOBS * FQ_JOB_NUMBERS, USES, JOBS, resources, sizeof resources, priority,
                               time, resource, length, &margin, 1);
     printf("at %" PRIu64 ", task %u asks for resource %u for %" PRIu32 " ticks: ", time, (unsigned)priority, (unsigned)resource, length);
     if (answer < 0) {
@@ -44,17 +47,19 @@ static bool take(uint8_t priority, uint64_t time, uint8_t resource, uint32_t len
         return false;
     }
     printf("%s, margin %" PRId64 "\n", answer == 1 ? "granted" : "not granted", margin);
-    if (answer == 1)
-        resources[RESOURCES + resource] = priority;
+    if (answer == 1) {
+        resources[HOLDERS + resource] = priority;
+    }
     return answer == 1;
 }
 
 /* Gives a resource back. */
 static void give_back(uint8_t resource)
 {
-    resources[RESOURCES + resource] = 0;
+    resources[HOLDERS + resource] = 0;
 }
 
+/* Asks for locks one after the other, and gives back what was taken. */
 int main(void)
 {
     /* 17 ticks lie before the start at 20, six of them taken by the job at 5: 11 are free. */
@@ -68,8 +73,9 @@ int main(void)
 
     /* While a started job runs no lock is given, and from its end on one is. */
     take(RADIO_TASK, 22, CONVERTER, 31);
-    if (take(RADIO_TASK, 23, CONVERTER, 31))
+    if (take(RADIO_TASK, 23, CONVERTER, 31)) {
         give_back(CONVERTER);
+    }
 
     /* The note store is used by no started job. Held by the log task, it does not keep the radio task from the converter unless the radio task is a user too. */
     if (take(LOG_TASK, 103, NOTE_STORE, 500)) {

@@ -5,9 +5,9 @@
  * From the repository's root, on x86-64:
  *
  *     rt staticlib fidhaqooban
- *     gcc -Iinclude -o example examples/release_of_march.c target/staticlib/libfidhaqooban.a && ./example
+ *     gcc -std=c11 -Iinclude -o example examples/release_of_march.c target/staticlib/libfidhaqooban.a && ./example
  */
-#include "fidhaqooban.h"
+#include <fidhaqooban.h>
 
 #include <inttypes.h>
 #include <stdio.h>
@@ -16,8 +16,10 @@
 /* The tasks of the box, by place. */
 enum { RADIO, NOTE_STORE, SETTLEMENT_CHECK, LOG, COUNT };
 
+/* The fault interval, and a backup that is left out. */
 enum { INTERVAL = 300, LEFT_OUT = 1 };
 
+/* The bytes of a sheet. */
 struct sheet {
     size_t length;
     uint8_t bytes[FQ_SHEET_BYTES];
@@ -54,10 +56,11 @@ static void print_responses(const char *name, const struct sheet *sheet)
     printf("%s:", name);
     for (size_t place = 0; place < COUNT; place++) {
         int64_t time = fq_response(sheet->bytes, sheet->length, place);
-        if (time > 0)
+        if (time > 0) {
             printf(" %" PRId64, time);
-        else
+        } else {
             printf(" late");
+        }
     }
     printf("\n");
 }
@@ -66,20 +69,22 @@ static void print_responses(const char *name, const struct sheet *sheet)
 static const struct sheet *to_load(const struct sheet *in_use, const struct sheet *candidate, uint8_t protected_places)
 {
     int64_t answer = fq_release(in_use->bytes, in_use->length, candidate->bytes, candidate->length, protected_places);
-    if (answer < 0)
+    if (answer < 0) {
         printf("  refused by rule %" PRId64 "\n", -answer);
-    else
+    } else {
         printf("  %s\n", answer == 1 ? "the candidate is loaded" : "the sheet in use stays");
+    }
     return answer == 1 ? candidate : in_use;
 }
 
+/* Puts candidates to the release desk, one after the other. */
 int main(void)
 {
-    static const uint16_t radio_alone[FQ_RECORD_NUMBERS] = {5, 10, 50, 50, 1, 1};
+    static const uint16_t RADIO_ALONE[FQ_RECORD_NUMBERS] = {5, 10, 50, 50, 1, 1};
     const struct sheet march = planned(LEFT_OUT, 3);
     const struct sheet whole = planned(40, 3);
     const struct sheet lowered = planned(40, 1);
-    const struct sheet fewer = written(1, radio_alone);
+    const struct sheet fewer = written(1, RADIO_ALONE);
     const struct sheet *in_use = &march;
     print_responses("in use, the note store's backup left out", in_use);
 

@@ -4,7 +4,7 @@
  * A sheet is the bytes of docs/FORMAT.md: a header of 3 bytes, or of 7 where the processor is shared, and 9 bytes for
  * each of 1 to 8 tasks.
  * Every function answers any bytes and any numbers, and always returns. Each is proved to give the answer
- * that its comment says (docs/PROMISES.md), for a caller who keeps to the three points below, which
+ * that its comment says (docs/promises/fidhaqooban.md), for a caller who keeps to the three points below, which
  * nothing proves:
  *
  *   - a pointer is not null and is valid for the length beside it, even where that length is 0;
@@ -15,7 +15,7 @@
  * are tried (enum fq_refusal); where the answer is an int64_t, that number with a minus sign. A refused call
  * changes no byte of `out`; one that is not changes the bytes that it writes and none after them.
  *
- * Memory and time: no heap and no state. The archive needs memcpy and, on x86-64, memset from outside (tests/symbols.txt) and
+ * Memory and time: no heap and no state. The archive needs memcpy and, on x86-64, memset from outside (tests/tree/symbols.txt) and
  * calls nothing else. FQ_STACK_BYTES is more than any call was measured to take; no theorem bounds the stack.
  * The x86-64 code uses the SSE registers and, in some functions, the 128 bytes below the stack pointer (the red zone), so
  * whoever calls it where the first are not saved, or where an interrupt may write the second (a kernel, an interrupt
@@ -202,13 +202,13 @@ int64_t fq_next(const uint8_t *sheet, size_t len, uint32_t after);
 /*
  * Writes every choice under which the sheet passes, ascending, four bytes each: the number of fq_next, its
  * first byte highest.
- * Answer: how many entries were written, or minus the refusal (1 to 11 or 18).
+ * Answer: how many choices were written, or minus the refusal (1 to 11 or 18).
  */
 int64_t fq_list(const uint8_t *sheet, size_t len, uint8_t *out, size_t out_len);
 
 /*
  * The assured time of the record at a place (from 0), under the sheet's own interval and fault priorities: by
- * the equation "low" of docs/RUNS.md, which is proved of runs. Where every task has one, no job misses its
+ * the assured equation of docs/RUNS.md, which is proved of runs. Where every task has one, no job misses its
  * deadline in any log that fq_replay accepts, and each is done within its task's assured time. For the whole
  * processor only.
  * Answer: the time, 0 where the task has none within its deadline, or minus the refusal (1 to 10, 18, 19, and
@@ -226,7 +226,7 @@ int64_t fq_assured_next(const uint8_t *sheet, size_t len, uint32_t after);
 
 /*
  * Writes every such choice, ascending, as fq_list writes the passing ones.
- * Answer: how many entries were written, or minus the refusal (1 to 10, 18, 19, and last 11).
+ * Answer: how many choices were written, or minus the refusal (1 to 10, 18, 19, and last 11).
  */
 int64_t fq_assured_list(const uint8_t *sheet, size_t len, uint8_t *out, size_t out_len);
 
@@ -294,8 +294,8 @@ int64_t fq_mend(const uint8_t *sheet, size_t len, uint8_t *out, size_t out_len, 
 
 /*
  * Puts the records of a sheet on a box with several cores, which tasks never change: each record in its turn on the
- * lowest-numbered core where that core's tasks still pass, their priorities ranked from 1 in their old order within the
- * core and each fault priority equal to the priority. Each core has its own faults, spaced by the sheet's interval; the
+ * lowest-numbered core where that core's tasks still pass, their priorities renumbered from 1 in their old order within
+ * the core and each fault priority equal to the priority. Each core has its own faults, spaced by the sheet's interval; the
  * sheet's own fault priorities play no part.
  * Answer: 0 with each record's core, from 1, in `out`, a byte each in record order; the first record, from 1, that fits
  * none, with `out` as it was; or minus the refusal (1 to 10, 18, 19 for a shared processor, 23 where `cores` is not 1 to

@@ -13,6 +13,7 @@
 
 enum { NO_SUCH_ARGUMENT = -1, DOES_NOT_FIT = -2, EVERY_FILE = O_NOCTTY | O_CLOEXEC };
 
+/* The program's arguments. */
 static int count;
 static char **words;
 
@@ -23,6 +24,7 @@ __attribute__((constructor)) static void keep(int given_count, char **given_word
     words = given_words;
 }
 
+/* How many arguments there are, the program's own name among them. */
 size_t rattle_arg_count(void)
 {
     return (size_t)count;
@@ -44,36 +46,43 @@ ssize_t rattle_arg(size_t place, uint8_t *buffer, size_t room)
     return (ssize_t)length;
 }
 
+/* The number of the last error. */
 int32_t rattle_errno(void)
 {
     return errno;
 }
 
+/* Sets that number. */
 void rattle_set_errno(int32_t error)
 {
     errno = error;
 }
 
+/* Opens a file to be read: its descriptor, or -1. */
 int32_t rattle_open_to_read(const char *path)
 {
     return open(path, O_RDONLY | EVERY_FILE);
 }
 
+/* Makes a file that is not there yet. */
 int32_t rattle_open_new(const char *path, uint32_t mode)
 {
     return open(path, O_WRONLY | O_CREAT | O_EXCL | EVERY_FILE, mode);
 }
 
+/* Makes a file, or empties the one that is there. */
 int32_t rattle_open_to_overwrite(const char *path, uint32_t mode)
 {
     return open(path, O_WRONLY | O_CREAT | O_TRUNC | EVERY_FILE, mode);
 }
 
+/* Opens a file to be written after its end. */
 int32_t rattle_open_to_append(const char *path)
 {
     return open(path, O_WRONLY | O_APPEND | EVERY_FILE);
 }
 
+/* Opens a file to be read and written where it stands. */
 int32_t rattle_open_to_update(const char *path)
 {
     return open(path, O_RDWR | EVERY_FILE);
@@ -89,8 +98,10 @@ struct kits_stat {
     int64_t reserved[3];
 };
 
+/* Known to the linker as fstat. */
 int32_t kits_fstat(int32_t opened, struct kits_stat *filled) __asm__("fstat");
 
+/* Fills the kit's struct from the system's: 0, or -1. */
 int32_t kits_fstat(int32_t opened, struct kits_stat *filled)
 {
     struct stat found;

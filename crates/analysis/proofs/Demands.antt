@@ -8,20 +8,24 @@ use mathlib.Core.Logic.{_↔_}
 use native.Mathlib.Decide.{ℕ-discrete}
 use native.Mathlib.Omega.{arith}
 use borrow.Author.Tests.{eq-eqb, not-true}
+use Rattle.places.specs.Places.{someBelow}
+use Rattle.places.proofs.Some.{some-found, some-none}
+use Rattle.places.proofs.Search.{Fails, Says, first-says, first-found, first-none}
 use Rattle.sheet.specs.declared.Table.{Table}
-use Rattle.sheet.specs.Places.{someBelow}
 use Rattle.sheet.specs.Rules.{tableRefusal}
 use Rattle.sheet.specs.Layout.{recordAt}
 use Rattle.sheet.proofs.Cases.{GoodTable, good-table, good-at}
-use Rattle.analysis.specs.Tasks.{Tasks, tasksOf, ownChoice}
-use Rattle.analysis.specs.Equations.{struckElsewhere, struckItself}
-use Rattle.analysis.specs.Search.{leastWithin}
-use Rattle.analysis.specs.Response.{timeElsewhere, timeItself, responseWithin, responseTime, isLate, late, passes}
-use Rattle.analysis.specs.Low.{low, lowWithin, lowTime}
-use Rattle.analysis.specs.Answers.{leastInterval}
-use Rattle.analysis.proofs.Climbing.{Fails, Says, first-says, first-found, first-none, Least, least-says, least-found, least-none}
-use Rattle.analysis.proofs.EachTick.{itself-never}
-use Rattle.analysis.proofs.Verdicts.{late-elsewhere, late-itself, on-time, some-found, none-below}
+use Rattle.analysis.specs.Common.Tasks.{Tasks, tasksOf, ownChoice}
+use Rattle.analysis.specs.Published.Equations.{struckElsewhere, struckItself}
+use Rattle.analysis.specs.Common.Search.{leastWithin}
+use Rattle.analysis.specs.Published.Response.{timeElsewhere, timeItself, responseWithin, responseTime, late, passes}
+use Rattle.analysis.specs.Common.Entries.{isLate}
+use Rattle.analysis.specs.Assured.Equation.{assuredEquation}
+use Rattle.analysis.specs.Assured.Time.{assuredWithin, assuredTime}
+use Rattle.analysis.specs.Published.Answers.{leastInterval}
+use Rattle.analysis.proofs.Laws.Common.Climbing.{Least, least-says, least-found, least-none}
+use Rattle.analysis.proofs.Laws.Published.EachTick.{itself-never}
+use Rattle.analysis.proofs.Laws.Published.Larger.{late-elsewhere, late-itself, on-time}
 
 -- L is at least what is asked of it, from the start and within the limit, and every smaller number from the start fails that
 pub record IsLeast (asked : ℕ → ℕ) (start limit L : ℕ) : Type 0 where
@@ -94,22 +98,22 @@ module _ (limit : ℕ) (s : Tasks) (i : ℕ) where
       back (no-time-elsewhere v) = sym (late-elsewhere limit s i (elsewhere-none .1 v))
       back (no-time-itself v) = later (itself-none .1 v) (ℕ-discrete (timeElsewhere limit s i) 0)
 
--- the time by "low" is the least that its equation allows up to 65,535, and there is none exactly if no number up to there is enough
+-- the assured time is the least that its equation allows up to 65,535, and there is none exactly if no number up to there is enough
 module _ (s : Tasks) (i : ℕ) where
-  pub low-least : (L : ℕ) → 1 ≤ L → (lowTime s i ≡ L) ↔ IsLeast (low s i) 1 65535 L
-  unfolding lowTime lowWithin
-  low-least L long = least-is (low s i) 1 65535 (omega arith) L long
+  pub low-least : (L : ℕ) → 1 ≤ L → (assuredTime s i ≡ L) ↔ IsLeast (assuredEquation s i) 1 65535 L
+  unfolding assuredTime assuredWithin
+  low-least L long = least-is (assuredEquation s i) 1 65535 (omega arith) L long
 
-  pub low-none : (lowTime s i ≡ 0) ↔ NoValue (low s i) 1 65535
-  unfolding lowTime lowWithin
-  low-none = none-is (low s i) 1 65535 (omega arith)
+  pub low-none : (assuredTime s i ≡ 0) ↔ NoValue (assuredEquation s i) 1 65535
+  unfolding assuredTime assuredWithin
+  low-none = none-is (assuredEquation s i) 1 65535 (omega arith)
 
 -- "A sheet passes if no task is late."
 pub passes-exactly : (s : Tasks) → (passes s ≡ true) ↔ ((i : ℕ) → i < s .count → late s i ≡ false)
 unfolding passes
 passes-exactly s = (
   λ e i below. go (late s i) refl i below (not-true (someBelow (late s) (s .count)) e),
-  λ each. ap not (none-below (late s) (s .count) each),
+  λ each. ap not (some-none (late s) (s .count) each),
 )
   where
     go : (b : Bool) {i : ℕ} → late s i ≡ b → (j : ℕ) → i < s .count → someBelow (late s) (s .count) ≡ false → b ≡ false

@@ -10,21 +10,23 @@ use native.Mathlib.Omega.{arith}
 use borrow.Author.Tests.{eq-eqb, ne-eqb}
 use lib.Dec.{eqb}
 use lib.ListN.{getD, replicate}
+use Rattle.places.specs.Places.{someBelow, filledBelow}
+use Rattle.places.proofs.Agree.{some-agree, filled-agree}
+use Rattle.places.proofs.Filled.{filled-at}
 use Rattle.sheet.specs.declared.Table.{Table}
-use Rattle.sheet.proofs.Agree.{some-agree}
 use Rattle.sheet.specs.Layout.{recordAt}
-use Rattle.sheet.specs.Places.{someBelow, filledBelow}
 use Rattle.sheet.specs.Rules.{tableRefusal}
-use Rattle.sheet.proofs.Agree.{filled-at}
 use Rattle.sheet.proofs.Cases.{good-table}
 use Rattle.analysis.specs.declared.Assessment.{Assessment}
 use Rattle.analysis.specs.declared.Entry.{Entry}
-use Rattle.analysis.specs.Tasks.{Tasks, tasksOf, ownChoice}
-use Rattle.analysis.specs.Response.{responseWithin, responseTime, late, passes}
-use Rattle.analysis.specs.Answers.{entryOf, noEntry, choiceRefusal, assessed, choiceAssessment, ownAssessment}
-use Rattle.analysis.proofs.Limits.{response-cut, late-cut, cut-on-time}
-use Rattle.analysis.proofs.Choice.{own-at, own-refusal}
-use Rattle.analysis.proofs.Below.{filled-agree, entry-same, passes-same}
+use Rattle.analysis.specs.Common.Tasks.{Tasks, tasksOf, ownChoice}
+use Rattle.analysis.specs.Published.Response.{responseWithin, responseTime, late, passes}
+use Rattle.analysis.specs.Published.Answers.{entryOf, choiceRefusal, choiceAssessment, ownAssessment}
+use Rattle.analysis.specs.Common.Entries.{noEntry, assessed}
+use Rattle.analysis.proofs.Laws.Published.Cut.{response-cut, late-cut}
+use Rattle.analysis.proofs.Laws.Common.Cut.{cut-on-time}
+use Rattle.analysis.proofs.Laws.Common.Choice.{own-at, own-refusal}
+use Rattle.analysis.proofs.Laws.Published.Below.{entry-same, passes-same}
 
 -- document 01: "A task is late if either time [..] has no value within D."
 unfoldable pub formerTime : Tasks → ℕ → ℕ

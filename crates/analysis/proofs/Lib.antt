@@ -1,28 +1,8 @@
--- Laws that belong to no one function.
-pub mod Rounding
-pub mod Totalled
-pub mod Gathered
-pub mod Climbing
-pub mod Tied
-pub mod Shared
-pub mod Found
-pub mod Verdicts
-pub mod Limits
-pub mod Easier
-pub mod Below
-pub mod Former
-pub mod Stages
-pub mod Choice
-pub mod Lowest
-pub mod Reordered
-pub mod Placing
-pub mod EachTick
+-- Laws and theorems that belong to no one function. Laws has those that the functions' proofs cite, by the families of specs; after them come the theorems, in the documents' words: the demands on times, the slack,
+-- what stands beside a refusal, what was replaced, and that each public call's contract leaves one answer. Each list is in reading order.
+pub mod Laws
 pub mod Demands
 pub mod Slacks
-pub mod Halving
-pub mod Borne
-pub mod Raised
-pub mod Lowered
-pub mod Judging
 pub mod Refused
+pub mod Former
 pub mod Unique

@@ -9,27 +9,28 @@ use native.Mathlib.Omega.{arith}
 use borrow.Author.Tests.{eq-eqb, ne-eqb}
 use lib.IntN.{pos}
 use lib.ListN.{length, getD, replicate, getD-replicate}
+use Rattle.places.proofs.Tells.{ltb-tells, tests}
+use Rattle.places.proofs.Filled.{length-filled, filled-at, filled-past}
+use Rattle.places.proofs.Refusals.{none-of}
 use Rattle.sheet.specs.declared.Table.{Table}
 use Rattle.sheet.specs.Rules.{tableRefusal}
-use Rattle.sheet.proofs.Tells.{ltb-tells}
-use Rattle.sheet.proofs.Turns.{length-filled, none-of}
-use Rattle.sheet.proofs.Agree.{filled-at}
 use Rattle.sheet.proofs.Cases.{good-table}
 use Rattle.sheet.proofs.Order.{table-in-order}
-use Rattle.sheet.proofs.Refused.{given-unless, passed-if, tests}
+use Rattle.sheet.proofs.Refused.{given-unless, passed-if}
 use Rattle.analysis.specs.declared.Entry.{Entry}
 use Rattle.analysis.specs.declared.Outcome.the-variants.{OnTime, Late}
 use Rattle.analysis.specs.declared.Rule.{Rule}
 use Rattle.analysis.specs.declared.Slack.the-variants.{Figure}
 use Rattle.analysis.specs.declared.Interval.the-variants.{Refused, Least, Nothing}
-use Rattle.analysis.specs.Tasks.{Tasks, tasksOf}
-use Rattle.analysis.specs.Response.{responseTime, late, passes}
-use Rattle.analysis.specs.Allowed.{levelsOf, allAllowed}
-use Rattle.analysis.specs.Answers.{outcomeOf, saysLate, slackOf, entryFrom, entryOf, noEntry, ownTasks, timedRefusal, timedAnswer}
-use Rattle.analysis.specs.Answers.{choiceRefusal, untimed, assessed, choiceAssessment, ownAssessment, leastInterval, leastOf, intervalAnswer}
-use Rattle.analysis.specs.Judged.{ruleRefusal, judgedRefusal, choiceAssessmentBy, placeRefusal, timedBy}
-use Rattle.analysis.specs.Bounds.{noBounds, boundsOf, verdictOf}
-use Rattle.analysis.proofs.Choice.{Allowed, allowed-exactly, filled-past, own-refusal}
+use Rattle.analysis.specs.Common.Tasks.{Tasks, tasksOf}
+use Rattle.analysis.specs.Published.Response.{responseTime, late, passes}
+use Rattle.analysis.specs.Common.Columns.{prioritiesOf}
+use Rattle.analysis.specs.Common.Allowed.{allAllowed}
+use Rattle.analysis.specs.Common.Entries.{outcomeOf, saysLate, slackOf, entryFrom, noEntry, ownTasks, untimed, assessed, verdictOf}
+use Rattle.analysis.specs.Published.Answers.{entryOf, timedRefusal, timedAnswer, choiceRefusal, choiceAssessment, ownAssessment, leastInterval, leastOf, intervalAnswer}
+use Rattle.analysis.specs.ByRule.{ruleRefusal, judgedRefusal, choiceAssessmentBy, placeRefusal, timedBy}
+use Rattle.analysis.specs.Bounds.Found.{noBounds, boundsOf}
+use Rattle.analysis.proofs.Laws.Common.Choice.{Allowed, allowed-exactly, own-refusal}
 use Rattle.analysis.proofs.Demands.{passes-exactly}
 
 -- "deadline 0 beside time 0"; its slack is 0
@@ -92,14 +93,14 @@ module _ (t : Table) (choice : List ℕ) (eight : length choice ≡ 8) where
   pub choice-13 : (choiceRefusal t choice ≡ 13) ↔ ((tableRefusal t ≡ 0) × (Allowed t choice → ⊥))
   unfolding choiceRefusal
   choice-13 =
-      let last = given-unless (tableRefusal t) 13 (table-in-order t .range) (omega arith) (tests (allAllowed (levelsOf t) choice)) in
+      let last = given-unless (tableRefusal t) 13 (table-in-order t .range) (omega arith) (tests (allAllowed (prioritiesOf t) choice)) in
       (λ e. let h = last .0 e in (h .0, λ w. h .1 (allowed-exactly t (h .0) choice eight .1 w)), λ h. last .1 (h .0, λ e. h .1 (allowed-exactly t (h .0) choice eight .0 e)))
 
   -- 0 exactly if the table is good and the choice allowed
   pub choice-0 : (choiceRefusal t choice ≡ 0) ↔ ((tableRefusal t ≡ 0) × Allowed t choice)
   unfolding choiceRefusal
   choice-0 =
-      let fine = passed-if (tableRefusal t) 13 (table-in-order t .range) (omega arith) (tests (allAllowed (levelsOf t) choice)) in
+      let fine = passed-if (tableRefusal t) 13 (table-in-order t .range) (omega arith) (tests (allAllowed (prioritiesOf t) choice)) in
       (λ e. let h = fine .0 e in (h .0, allowed-exactly t (h .0) choice eight .0 (h .1)), λ h. fine .1 (h .0, allowed-exactly t (h .0) choice eight .1 (h .1)))
 
 -- `assess_choice`
@@ -177,7 +178,7 @@ module _ (rule : Rule) (t : Table) where
   unfolding boundsOf
   bounds-refused broken = simp (ne-eqb (ruleRefusal rule t) 0 broken)
 
--- and of bounds and of a table that `holds_within` and `is_hopeless` refuse
+-- and of bounds and of a table that `meets_within` and `is_hopeless` refuse
 pub verdict-refused : (refusal : ℕ) (said : Bool) → (refusal ≡ 0 → ⊥) → verdictOf refusal said ≡ record { refusal = refusal; yes = false }
 unfolding verdictOf
 verdict-refused refusal said broken = simp (ne-eqb refusal 0 broken)

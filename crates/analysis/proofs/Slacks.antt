@@ -6,14 +6,15 @@ use native.Mathlib.Decide.{ℕ-discrete, decLe}
 use native.Mathlib.Omega.{arith}
 use borrow.Author.Tests.{eq-eqb, ne-eqb, le-ltb, lt-ltb}
 use lib.IntN.{pos, negsuc, _-ℤ_}
+use Rattle.places.proofs.Difference.{difference-left, difference-missing}
 use Rattle.analysis.specs.declared.Slack.{Slack}
 use Rattle.analysis.specs.declared.Slack.the-variants.{Figure, NoFigure}
 use Rattle.analysis.specs.declared.Outcome.{Outcome}
 use Rattle.analysis.specs.declared.Outcome.the-variants.{OnTime, Late}
-use Rattle.analysis.specs.Tasks.{Tasks}
-use Rattle.analysis.specs.Response.{responseTime, isLate}
-use Rattle.analysis.specs.Answers.{outcomeOf, slackOf, entryFrom, entryOf}
-use Rattle.sheet.proofs.Difference.{difference-left, difference-missing}
+use Rattle.analysis.specs.Common.Tasks.{Tasks}
+use Rattle.analysis.specs.Published.Response.{responseTime}
+use Rattle.analysis.specs.Common.Entries.{isLate, outcomeOf, slackOf, entryFrom}
+use Rattle.analysis.specs.Published.Answers.{entryOf}
 use Rattle.analysis.proofs.Demands.{Missing, missing-exactly}
 
 -- an outcome and a slack beside it: no time at all, one past the deadline, one within it

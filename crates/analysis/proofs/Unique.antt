@@ -19,7 +19,7 @@ use Rattle.analysis.proofs.assess.Reads as assessed
 use Rattle.analysis.proofs.least_interval.Reads as least
 use Rattle.analysis.proofs.is_hopeless.Reads as hopeless
 use Rattle.analysis.proofs.bounds_of.Reads as bounded
-use Rattle.analysis.proofs.holds_within.Reads as within
+use Rattle.analysis.proofs.meets_within.Reads as within
 
 pub judge-rule-unique : (args : _) (a b : ℕ) (s : _) → ruled.Learnt tt args a s → ruled.Learnt tt args b s → a ≡ b
 judge-rule-unique args a b s = both
@@ -57,5 +57,5 @@ is-hopeless-unique args a b s = both
 pub bounds-of-unique : (args : _) (a b : Bounds) (s : _) → bounded.Learnt tt args a s → bounded.Learnt tt args b s → a ≡ b
 bounds-of-unique args a b s = both
 
-pub holds-within-unique : (args : _) (a b : Verdict) (s : _) → within.Learnt tt args a s → within.Learnt tt args b s → a ≡ b
-holds-within-unique args a b s = both
+pub meets-within-unique : (args : _) (a b : Verdict) (s : _) → within.Learnt tt args a s → within.Learnt tt args b s → a ≡ b
+meets-within-unique args a b s = both

@@ -1,14 +1,7 @@
--- What a reader of the crate's promises must believe, in the order of document 01, with the equation of the assured choices after it; Demand is an inner device that no public promise cites, and Bounds one that walk and list go by.
-pub mod Rounding
-pub mod Totals
-pub mod Tasks
-pub mod Backups
-pub mod Equations
-pub mod Search
-pub mod Response
-pub mod Low
-pub mod Allowed
-pub mod Answers
-pub mod Judged
-pub mod Demand
+-- What a reader of the crate's promises must believe. This list, and within each family its own, is the table of contents in reading order: places and searches, what both rules share, the published
+-- times of documents 01 and 02, the assured times, what the calls answer that are given a rule, and the bounds that the walk and the list go by.
+pub mod Common
+pub mod Published
+pub mod Assured
+pub mod ByRule
 pub mod Bounds

@@ -1,19 +1,24 @@
 // Response times, the verdict and the least fault interval of a timing table, by the equations of documents 01 and 02.
 // Every call answers any table: a refused one gets its number, beside zeros, no, or nothing else.
 ghost use mathlib.Core.Path.{_≡_};
-ghost use Rattle.analysis.specs.Answers.{timedAnswer, choiceRefusal, choiceAssessment, ownAssessment, intervalAnswer};
-ghost use Rattle.analysis.specs.Judged.{ruleRefusal, judgedRefusal, choiceAssessmentBy, ownAssessmentBy, placeRefusal, timedBy};
-ghost use Rattle.analysis.specs.Bounds.{hopelessAnswer, boundsOf, withinAnswer};
+ghost use Rattle.analysis.specs.Published.Answers.{timedAnswer, choiceRefusal, choiceAssessment, ownAssessment, intervalAnswer};
+ghost use Rattle.analysis.specs.ByRule.{ruleRefusal, judgedRefusal, choiceAssessmentBy, ownAssessmentBy, placeRefusal, timedBy};
+ghost use Rattle.analysis.specs.Bounds.Hopeless.{hopelessAnswer};
+ghost use Rattle.analysis.specs.Bounds.Found.{boundsOf};
+ghost use Rattle.analysis.specs.Bounds.Within.{withinAnswer};
+use crate::bounding::hopeless;
+use crate::bounding::within;
+use crate::common::choice;
+use crate::common::entries;
+use crate::common::order;
+use crate::published::interval;
 use sheet::Table;
 
-mod allowed;
-mod bearing;
-mod judged;
-mod low;
-mod order;
-mod response;
-mod search;
-mod workload;
+mod assured;
+mod bounding;
+mod by_rule;
+mod common;
+mod published;
 
 // A response time, or late.
 pub enum Outcome {
@@ -54,10 +59,10 @@ pub enum Interval {
     Nothing,
 }
 
-// The rule that a choice of fault priorities is judged by: the published equations, or "low".
+// The rule that a choice of fault priorities is judged by: the published equations, or the assured equation.
 pub enum Rule {
     Published,
-    Low,
+    Assured,
 }
 
 // One of the equations as the code computes it, for the record at a rank: a base, the records before the rank and those after it and before the last,
@@ -93,7 +98,16 @@ pub struct Bounds {
     pub limits: [u32; 72],
 }
 
-// What `is_hopeless` and `holds_within` answer: the refusal, or 0 beside yes or no.
+// A choice beside bounds: the records' backups and priorities in record order, how many records there are, and the tops, the largest backup at or above each priority.
+pub struct Weighed {
+    pub tops: [u16; 9],
+    pub backups: [u16; 8],
+    pub priorities: [u8; 8],
+    pub choice: [u8; 8],
+    pub count: usize,
+}
+
+// What `is_hopeless` and `meets_within` answer: the refusal, or 0 beside yes or no.
 pub struct Verdict {
     pub refusal: u8,
     pub yes: bool,
@@ -103,11 +117,10 @@ pub struct Verdict {
 pub fn judge_rule(table: Table, rule: Rule) -> u8
     ensures { λ r. ⌜ r ≡ ruleRefusal rule table ⌝ }
 {
-    let refusal = sheet::judge_table(table);
-    if refusal != 0 {
-        return refusal;
+    match rule {
+        Rule::Published => sheet::judge_table(table),
+        Rule::Assured => sheet::judge_whole(table),
     }
-    judged::judge_shared(table.round, table.share, rule)
 }
 
 // The refusal of a choice under a rule: that of the table, then 13.
@@ -118,7 +131,7 @@ pub fn judge_choice_by(table: Table, choice: [u8; 8], rule: Rule) -> u8
     if refusal != 0 {
         return refusal;
     }
-    if allowed::all_allowed(table, choice) {
+    if choice::all_allowed(table, choice) {
         0
     } else {
         13
@@ -151,11 +164,11 @@ pub fn time_by(table: Table, place: usize, rule: Rule) -> Timed
     if refusal != 0 {
         return Timed {
             refusal,
-            entry: response::no_entry(),
+            entry: entries::no_entry(),
         };
     }
-    let choice = response::own_choice(table);
-    let entry = judged::entry_at(table, order::ordered(table, choice), choice, place, rule);
+    let choice = choice::own_choice(table);
+    let entry = by_rule::entry_at(table, order::ordered(table, choice), choice, place, rule);
     Timed { refusal: 0, entry }
 }
 
@@ -172,16 +185,16 @@ pub fn assess_choice_by(table: Table, choice: [u8; 8], rule: Rule) -> Assessment
 {
     let refusal = judge_choice_by(table, choice, rule);
     if refusal != 0 {
-        return response::no_times(refusal);
+        return entries::no_times(refusal);
     }
-    judged::assessment(table, choice, rule)
+    by_rule::assessment(table, choice, rule)
 }
 
 // The same under the table's own fault priorities, which are a choice of every good table.
 pub fn assess_by(table: Table, rule: Rule) -> Assessment
     ensures { λ r. ⌜ r ≡ ownAssessmentBy rule table ⌝ }
 {
-    assess_choice_by(table, response::own_choice(table), rule)
+    assess_choice_by(table, choice::own_choice(table), rule)
 }
 
 // Each record's entry, and whether no task is late, under a choice.
@@ -206,7 +219,7 @@ pub fn least_interval(table: Table) -> Interval
     if refusal != 0 {
         return Interval::Refused(refusal);
     }
-    let least = response::least(table);
+    let least = interval::least(table);
     if least == 0 {
         return Interval::Nothing;
     }
@@ -224,7 +237,7 @@ pub fn is_hopeless(table: Table) -> Verdict
             yes: false,
         };
     }
-    let yes = bearing::some_missed(table);
+    let yes = hopeless::some_missed(table);
     Verdict { refusal: 0, yes }
 }
 
@@ -234,22 +247,22 @@ pub fn bounds_of(table: Table, rule: Rule) -> Bounds
 {
     let refusal = judge_rule(table, rule);
     if refusal != 0 {
-        return bearing::none(refusal);
+        return bounding::none(refusal);
     }
-    bearing::found(table, rule)
+    bounding::found(table, rule)
 }
 
-// Whether a choice stays within bounds under a rule: for those of a good table and a choice that it has, whether it holds by the rule.
-pub fn holds_within(bounds: Bounds, choice: [u8; 8], rule: Rule) -> Verdict
+// Whether a choice stays within bounds under a rule: for those of a good table and a choice that it has, whether it meets by the rule.
+pub fn meets_within(bounds: Bounds, choice: [u8; 8], rule: Rule) -> Verdict
     ensures { λ r. ⌜ r ≡ withinAnswer rule bounds choice ⌝ }
 {
-    let refusal = bearing::judge(bounds.refusal, bounds.count);
+    let refusal = within::judge(bounds.refusal, bounds.count);
     if refusal != 0 {
         return Verdict {
             refusal,
             yes: false,
         };
     }
-    let yes = bearing::within(bounds, choice, rule);
+    let yes = within::within(bounds, choice, rule);
     Verdict { refusal: 0, yes }
 }

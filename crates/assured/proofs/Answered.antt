@@ -1,4 +1,4 @@
--- The answers of the calls that the calls of analysis and choices give under the rule "low". Assumes nothing.
+-- The answers of the calls that the calls of analysis and choices give under the assured rule. Assumes nothing.
 use Prim.Native.Nat.{ℕ, _≤_, _<_}
 use mathlib.Core.Path.{_≡_, refl, sym, ap, _∙_}
 use mathlib.Core.Bool.{Bool, true, false, cond}
@@ -8,39 +8,37 @@ use borrow.Author.Tests.{eq-eqb, ne-eqb}
 use lib.Dec.{eqb}
 use lib.ListN.{length, getD, replicate, getD-replicate}
 use lib.Seq.{ext-getD}
+use Rattle.places.specs.Places.{filledBelow}
+use Rattle.places.proofs.Filled.{filled-at, length-filled, filled-past}
 use Rattle.sheet.specs.declared.Table.{Table}
-use Rattle.sheet.specs.Places.{filledBelow}
-use Rattle.sheet.proofs.Agree.{filled-at}
+use Rattle.sheet.specs.Rules.{sharedRefusal}
 use Rattle.sheet.proofs.Cases.{good-table}
-use Rattle.sheet.proofs.Turns.{length-filled}
 use Rattle.analysis.specs.declared.Assessment.{Assessment}
 use Rattle.analysis.specs.declared.Entry.{Entry as Whole}
 use Rattle.analysis.specs.declared.Timed.{Timed as WholeTimed}
-use Rattle.analysis.specs.declared.Rule.the-variants.{Low}
-use Rattle.analysis.specs.Low.{assured}
-use Rattle.analysis.specs.Answers.{ownTasks, entryFrom, assessed, noEntry as noWhole}
-use Rattle.analysis.specs.Judged.{holds, shareRefusal, ruleRefusal, timeBy, entryBy, choiceAssessmentBy, ownAssessmentBy, placeRefusal as lowPlaceRefusal, timedBy}
-use Rattle.analysis.proofs.Choice.{filled-past}
-use Rattle.analysis.proofs.Judging.{rule-good, own-judged}
-use Rattle.replay.specs.Rules.{sharedRefusal}
+use Rattle.analysis.specs.declared.Rule.the-variants.{Assured}
+use Rattle.analysis.specs.Assured.Time.{assured}
+use Rattle.analysis.specs.Common.Entries.{ownTasks, entryFrom, assessed, noEntry as noWhole}
+use Rattle.analysis.specs.ByRule.{meets, ruleRefusal, timeBy, entryBy, choiceAssessmentBy, ownAssessmentBy, placeRefusal as rulePlaceRefusal, timedBy}
+use Rattle.analysis.proofs.Laws.ByRule.{rule-good, own-judged}
 use Rattle.assured.specs.declared.Timed.{Timed}
 use Rattle.assured.specs.declared.Times.{Times}
 use Rattle.assured.specs.Answers.{assuredRefusal, placeRefusal, entryOf, noEntry, withoutSlack, timeAnswer, timesAnswer}
 
--- the table's own rules and 19 are what the rule "low" refuses a table for
-pub refusal-low : (t : Table) → assuredRefusal t ≡ ruleRefusal Low t
-unfolding assuredRefusal ruleRefusal shareRefusal sharedRefusal
-refusal-low t = refl
+-- the table's own rules and 19 are what the assured rule refuses a table for
+pub refusal-assured : (t : Table) → assuredRefusal t ≡ ruleRefusal Assured t
+unfolding assuredRefusal ruleRefusal sharedRefusal
+refusal-assured t = refl
 
 -- the answer of `time_by` without the slack
 abbrev pub timedOf : WholeTimed → Timed
 timedOf given = record { refusal = given .refusal; entry = withoutSlack (given .entry) }
 
-pub time-low : (t : Table) (place : ℕ) → timedOf (timedBy Low t place) ≡ timeAnswer t place
-unfolding timeAnswer timedBy placeRefusal lowPlaceRefusal assuredRefusal ruleRefusal shareRefusal sharedRefusal entryBy timeBy entryFrom entryOf
-time-low t place = go (eqb (placeRefusal t place) 0)
+pub time-assured : (t : Table) (place : ℕ) → timedOf (timedBy Assured t place) ≡ timeAnswer t place
+unfolding timeAnswer timedBy placeRefusal rulePlaceRefusal assuredRefusal ruleRefusal sharedRefusal entryBy timeBy entryFrom entryOf
+time-assured t place = go (eqb (placeRefusal t place) 0)
   where
-    go : (b : Bool) → timedOf (record { refusal = placeRefusal t place; entry = cond b (entryBy Low (ownTasks t) place) noWhole }) ≡ record { refusal = placeRefusal t place; entry = cond b (entryOf (ownTasks t) place) noEntry }
+    go : (b : Bool) → timedOf (record { refusal = placeRefusal t place; entry = cond b (entryBy Assured (ownTasks t) place) noWhole }) ≡ record { refusal = placeRefusal t place; entry = cond b (entryOf (ownTasks t) place) noEntry }
     go true = refl
     go false = refl
 
@@ -78,11 +76,11 @@ entries-of refusal entry n few = go (ℕ-discrete refusal 0)
     go (yes fine) = rw (eq-eqb refusal 0 fine) (filled-under withoutSlack entry noWhole n (few fine))
     go (no broken) = rw (ne-eqb refusal 0 broken) (filled-under withoutSlack entry noWhole 0 (omega arith))
 
-pub times-low : (t : Table) → timesOf (ownAssessmentBy Low t) ≡ timesAnswer t
-unfolding ownAssessmentBy choiceAssessmentBy assessed timesAnswer holds entryBy timeBy entryFrom entryOf
-times-low t =
+pub times-assured : (t : Table) → timesOf (ownAssessmentBy Assured t) ≡ timesAnswer t
+unfolding ownAssessmentBy choiceAssessmentBy assessed timesAnswer meets entryBy timeBy entryFrom entryOf
+times-assured t =
     let s = ownTasks t in
-    let refusal = own-judged Low t ∙ sym (refusal-low t) in
-    let few : assuredRefusal t ≡ 0 → t .count ≤ 8 = λ fine. good-table t (rule-good Low t (sym (refusal-low t) ∙ fine)) .count .1 in
-    ap (λ (r : ℕ). timesOf (assessed r (entryBy Low s) (t .count) (holds Low s))) refusal
-    ∙ (λ j. record { refusal = assuredRefusal t; entries = entries-of (assuredRefusal t) (entryBy Low s) (t .count) few j; assured = cond (eqb (assuredRefusal t) 0) (assured s) false })
+    let refusal = own-judged Assured t ∙ sym (refusal-assured t) in
+    let few : assuredRefusal t ≡ 0 → t .count ≤ 8 = λ fine. good-table t (rule-good Assured t (sym (refusal-assured t) ∙ fine)) .count .1 in
+    ap (λ (r : ℕ). timesOf (assessed r (entryBy Assured s) (t .count) (meets Assured s))) refusal
+    ∙ (λ j. record { refusal = assuredRefusal t; entries = entries-of (assuredRefusal t) (entryBy Assured s) (t .count) few j; assured = cond (eqb (assuredRefusal t) 0) (assured s) false })

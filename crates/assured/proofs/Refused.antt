@@ -4,17 +4,15 @@ use mathlib.Core.Path.{_≡_, refl, ap, _∙_}
 use mathlib.Core.Bool.{true, false}
 use borrow.Author.Tests.{eq-eqb, ne-eqb, lt-ltb, le-ltb}
 use lib.ListN.{length, getD, replicate, getD-replicate}
+use Rattle.places.proofs.Filled.{filled-at, length-filled, filled-past}
+use Rattle.places.proofs.Refusals.{first-of, next-of, none-of}
 use Rattle.sheet.specs.declared.Table.{Table}
 use Rattle.sheet.specs.Layout.{recordAt, isWhole}
-use Rattle.sheet.specs.Rules.{tableRefusal}
-use Rattle.sheet.proofs.Agree.{filled-at}
+use Rattle.sheet.specs.Rules.{tableRefusal, sharedRefusal}
 use Rattle.sheet.proofs.Cases.{good-table}
-use Rattle.sheet.proofs.Turns.{first-of, next-of, none-of, length-filled}
 use Rattle.analysis.specs.declared.Outcome.the-variants.{OnTime, Late}
-use Rattle.analysis.specs.Low.{lowTime, unassured, assured}
-use Rattle.analysis.specs.Answers.{outcomeOf, ownTasks}
-use Rattle.analysis.proofs.Choice.{filled-past}
-use Rattle.replay.specs.Rules.{sharedRefusal}
+use Rattle.analysis.specs.Assured.Time.{assuredTime, unassured, assured}
+use Rattle.analysis.specs.Common.Entries.{outcomeOf, ownTasks}
 use Rattle.assured.specs.declared.Entry.{Entry}
 use Rattle.assured.specs.Answers.{assuredRefusal, entryOf, noEntry, placeRefusal, timeAnswer, timesAnswer}
 
@@ -27,7 +25,7 @@ pub record Blank (e : Entry) : Type 0 where
 pub record Answers (t : Table) (place : ℕ) (e : Entry) : Type 0 where
   pub deadline : e .deadline ≡ recordAt (t .records) place .deadline
   pub is-late : unassured (ownTasks t) place ≡ true → e .outcome ≡ Late
-  pub is-assured : unassured (ownTasks t) place ≡ false → e .outcome ≡ OnTime (lowTime (ownTasks t) place)
+  pub is-assured : unassured (ownTasks t) place ≡ false → e .outcome ≡ OnTime (assuredTime (ownTasks t) place)
 
 blank : (e : Entry) → e ≡ noEntry → Blank e
 blank e same = record { deadline = ap (λ (x : Entry). x .deadline) same; time = ap (λ (x : Entry). x .outcome) same }

@@ -3,33 +3,35 @@ use mathlib.Core.Path.{_≡_, refl}
 use mathlib.Core.Bool.{true, false}
 use mathlib.Core.List.{[], _∷_}
 use lib.ListN.{replicate}
+use Rattle.places.specs.Places.{someBelow, filledBelow, sumBelow, mostBelow}
+use Rattle.places.specs.Search.{firstFrom}
+use Rattle.places.specs.Refusals.{orElse, firstBelow}
 use Rattle.sheet.specs.declared.Table.{Table}
-use Rattle.sheet.specs.Places.{orElse, firstBelow, someBelow, filledBelow}
 use Rattle.sheet.specs.Packing.{regrouped}
 use Rattle.sheet.specs.Layout.{headerOf, countOf, editionOf, intervalOf, roundOf, shareOf, startOf, partOf, recordFrom, recordOf, sheetRecord, recordAt, room, tableOf, isWhole, editionFor}
-use Rattle.sheet.specs.Rules.{outside, wrongShare, taken, refusalOf, recordRefusal, recordsRefusal, tableRefusal}
+use Rattle.sheet.specs.Rules.{outside, wrongShare, taken, refusalOf, recordRefusal, recordsRefusal, tableRefusal, sharedRefusal}
 use Rattle.analysis.specs.declared.Outcome.the-variants.{OnTime}
-use Rattle.analysis.specs.Rounding.{up}
-use Rattle.analysis.specs.Totals.{sumBelow, mostBelow}
-use Rattle.analysis.specs.Tasks.{faultAt, ownChoice}
-use Rattle.analysis.specs.Backups.{others, everyone, backupOf, largestBackup, backupElsewhere, backupFromFault}
-use Rattle.analysis.specs.Equations.{supplierOf, isBetween, struckElsewhere, struckItself}
-use Rattle.analysis.specs.Search.{firstFrom, leastWithin}
-use Rattle.analysis.specs.Response.{timeElsewhere, timeItself, responseWithin, responseTime, isLate, passes}
-use Rattle.analysis.specs.Low.{isOver, isAhead, backupAhead, low, lowWithin, lowTime, assured}
-use Rattle.analysis.specs.Answers.{outcomeOf, ownTasks}
-use Rattle.replay.specs.Rules.{sharedRefusal}
+use Rattle.analysis.specs.Common.Rounding.{up}
+use Rattle.analysis.specs.Common.Tasks.{faultAt, ownChoice}
+use Rattle.analysis.specs.Common.Backups.{others, everyone, backupOf, largestBackup, backupElsewhere, backupFromFault}
+use Rattle.analysis.specs.Published.Equations.{askedElsewhere, askedItself, isBetween, struckElsewhere, struckItself}
+use Rattle.analysis.specs.Common.Supplier.{supplierOf}
+use Rattle.analysis.specs.Common.Search.{leastWithin}
+use Rattle.analysis.specs.Published.Response.{timeElsewhere, timeItself, responseWithin, responseTime, passes}
+use Rattle.analysis.specs.Common.Entries.{isLate, outcomeOf, ownTasks}
+use Rattle.analysis.specs.Assured.Equation.{askedAssured, isOver, isAhead, backupAhead, assuredEquation}
+use Rattle.analysis.specs.Assured.Time.{assuredWithin, assuredTime, assured}
 use Rattle.runs.proofs.Rows.{sheet}
 use Rattle.assured.specs.Answers.{assuredRefusal, entryOf, noEntry, timesAnswer}
 
 -- "request 12's case passes"
 pub case-passes : passes (ownTasks (tableOf sheet)) ≡ true
-unfolding sheet someBelow filledBelow regrouped headerOf countOf editionOf intervalOf roundOf shareOf startOf partOf recordFrom recordOf sheetRecord recordAt room tableOf up sumBelow mostBelow faultAt ownChoice others everyone backupOf largestBackup backupElsewhere backupFromFault supplierOf isBetween struckElsewhere struckItself firstFrom leastWithin timeElsewhere timeItself responseWithin responseTime isLate passes
+unfolding sheet someBelow filledBelow regrouped headerOf countOf editionOf intervalOf roundOf shareOf startOf partOf recordFrom recordOf sheetRecord recordAt room tableOf up sumBelow mostBelow faultAt ownChoice others everyone backupOf largestBackup backupElsewhere backupFromFault supplierOf isBetween askedElsewhere struckElsewhere askedItself struckItself firstFrom leastWithin timeElsewhere timeItself responseWithin responseTime isLate passes
 case-passes = refl
 
 -- "and is not assured"
 pub case-not-assured : assured (ownTasks (tableOf sheet)) ≡ false
-unfolding sheet someBelow filledBelow regrouped headerOf countOf editionOf intervalOf roundOf shareOf startOf partOf recordFrom recordOf sheetRecord recordAt room tableOf up sumBelow mostBelow faultAt ownChoice others firstFrom leastWithin isLate isOver isAhead backupAhead low lowWithin lowTime assured
+unfolding sheet someBelow filledBelow regrouped headerOf countOf editionOf intervalOf roundOf shareOf startOf partOf recordFrom recordOf sheetRecord recordAt room tableOf up sumBelow mostBelow faultAt ownChoice others firstFrom leastWithin isLate isOver isAhead backupAhead askedAssured supplierOf assuredEquation assuredWithin assuredTime assured
 case-not-assured = refl
 
 -- two tasks whose fault priorities are both 1; the backup of the lower one is the larger
@@ -49,5 +51,5 @@ tied =
 -- at one fault priority the machine runs the higher task's backup first: the higher task waits for its own only, the lower one for the larger of both
 pub tied-times : timesAnswer tied
     ≡ record { refusal = 0; entries = record { deadline = 10; outcome = OnTime 2 } ∷ record { deadline = 30; outcome = OnTime 7 } ∷ replicate 6 noEntry; assured = true }
-unfolding tied orElse firstBelow someBelow filledBelow isWhole editionFor recordAt outside wrongShare taken refusalOf recordRefusal recordsRefusal tableRefusal up sumBelow mostBelow faultAt ownChoice others firstFrom leastWithin isLate isOver isAhead backupAhead low lowWithin lowTime assured outcomeOf sharedRefusal assuredRefusal entryOf timesAnswer
+unfolding tied orElse firstBelow someBelow filledBelow isWhole editionFor recordAt outside wrongShare taken refusalOf recordRefusal recordsRefusal tableRefusal up sumBelow mostBelow faultAt ownChoice others firstFrom leastWithin isLate isOver isAhead backupAhead askedAssured supplierOf assuredEquation assuredWithin assuredTime assured outcomeOf sharedRefusal assuredRefusal entryOf timesAnswer
 tied-times = refl

@@ -4,16 +4,17 @@ use mathlib.Core.Bool.{false, cond, _||_}
 use mathlib.Core.List.{List}
 use lib.Dec.{eqb, ltb}
 use lib.ListN.{replicate}
+use Rattle.places.specs.Places.{filledBelow}
+use Rattle.places.specs.Refusals.{orElse}
 use Rattle.sheet.specs.declared.Table.{Table}
-use Rattle.sheet.specs.Places.{orElse, filledBelow}
-use Rattle.sheet.specs.Rules.{tableRefusal}
+use Rattle.sheet.specs.Rules.{wholeRefusal}
 use Rattle.analysis.specs.declared.Outcome.the-variants.{OnTime}
 use Rattle.analysis.specs.declared.Entry.{Entry as Whole}
-use Rattle.analysis.specs.Tasks.{Tasks}
-use Rattle.analysis.specs.Low.{lowTime, assured}
-use Rattle.analysis.specs.Allowed.{levelsOf, allAllowed}
-use Rattle.analysis.specs.Answers.{outcomeOf, ownTasks}
-use Rattle.replay.specs.Rules.{sharedRefusal}
+use Rattle.analysis.specs.Common.Tasks.{Tasks}
+use Rattle.analysis.specs.Assured.Time.{assuredTime, assured}
+use Rattle.analysis.specs.Common.Columns.{prioritiesOf}
+use Rattle.analysis.specs.Common.Allowed.{allAllowed}
+use Rattle.analysis.specs.Common.Entries.{outcomeOf, ownTasks}
 use Rattle.choices.specs.declared.Walk.{Walk}
 use Rattle.choices.specs.declared.Stepped.{Stepped}
 use Rattle.choices.specs.declared.Listing.{Listing}
@@ -30,17 +31,17 @@ assuredOf t = chosen assured t
 
 -- what a table is refused for: its own rules, then 19 "for a shared processor"
 unfoldable pub assuredRefusal : Table → ℕ
-assuredRefusal t = orElse (tableRefusal t) (sharedRefusal t)
+assuredRefusal t = wholeRefusal t
 
 -- "the assured time of a task under a choice, within its deadline", beside the deadline; late where there is none
 unfoldable pub entryOf : Tasks → ℕ → Entry
-entryOf s i = record { deadline = s .at i .deadline; outcome = outcomeOf (s .at i .deadline) (lowTime s i) }
+entryOf s i = record { deadline = s .at i .deadline; outcome = outcomeOf (s .at i .deadline) (assuredTime s i) }
 
 -- the entry of a refused call and of a place past the count
 abbrev pub noEntry : Entry
 noEntry = record { deadline = 0; outcome = OnTime 0 }
 
--- an entry by the rule "low", of which no slack is told
+-- an entry by the assured rule, of which no slack is told
 abbrev pub withoutSlack : Whole → Entry
 withoutSlack given = record { deadline = given .deadline; outcome = given .outcome }
 
@@ -63,7 +64,7 @@ timesAnswer t =
 
 -- the refusal of a step: 13, "the choice to go on after is not all zero, and has an entry outside 1 to that record's p or a nonzero entry past the count", last
 unfoldable pub stepRefusal : Table → List ℕ → ℕ
-stepRefusal t start = orElse (assuredRefusal t) (cond (allZero start || allAllowed (levelsOf t) start) 0 13)
+stepRefusal t start = orElse (assuredRefusal t) (cond (allZero start || allAllowed (prioritiesOf t) start) 0 13)
 
 -- `step`: "every assured choice, ascending, once, as a walk"
 unfoldable pub stepAnswer : Table → Walk → Stepped

@@ -1,4 +1,4 @@
-// The choices of fault priorities that hold in every run, by the equation "low": the assured times of a table, and every assured choice as a walk and as a list.
+// The choices of fault priorities that hold in every run, by the assured equation: the assured times of a table, and every assured choice as a walk and as a list.
 // Every call answers any table: a refused one gets its number, 19 for a shared processor after the table's own, beside zeros, no, or nothing else.
 ghost use mathlib.Core.Path.{_≡_};
 ghost use Rattle.assured.specs.Answers.{noEntry, withoutSlack, timeAnswer, timesAnswer, stepAnswer, listAnswer, listLeaves};
@@ -38,7 +38,7 @@ fn no_entry() -> Entry
     }
 }
 
-// An entry by the rule "low", without its slack.
+// An entry by the assured rule, without its slack.
 fn without_slack(given: analysis::Entry) -> Entry
     ensures { λ r. ⌜ r ≡ withoutSlack given ⌝ }
 {
@@ -53,7 +53,7 @@ fn without_slack(given: analysis::Entry) -> Entry
 pub fn assured_time(table: Table, place: usize) -> Timed
     ensures { λ r. ⌜ r ≡ timeAnswer table place ⌝ }
 {
-    let timed = analysis::time_by(table, place, Rule::Low);
+    let timed = analysis::time_by(table, place, Rule::Assured);
     let entry = without_slack(timed.entry);
     Timed {
         refusal: timed.refusal,
@@ -65,7 +65,7 @@ pub fn assured_time(table: Table, place: usize) -> Timed
 pub fn assured_times(table: Table) -> Times
     ensures { λ r. ⌜ r ≡ timesAnswer table ⌝ }
 {
-    let assessment = analysis::assess_by(table, Rule::Low);
+    let assessment = analysis::assess_by(table, Rule::Assured);
     let mut entries = [no_entry(); 8];
     let mut place: usize = 0;
     while place < 8 {
@@ -83,12 +83,13 @@ pub fn assured_times(table: Table) -> Times
 pub fn step(table: Table, walk: Walk) -> Stepped
     ensures { λ r. ⌜ r ≡ stepAnswer table walk ⌝ }
 {
-    walk.step_by(table, Rule::Low)
+    walk.step_by(table, Rule::Assured)
 }
 
 // Every assured choice, 4 bytes each, at the start of the output.
 pub fn list(table: Table, out: &mut [u8]) -> Listing
-    ensures { λ r. ⌜ (r ≡ listAnswer table (now (out .entry))) × (now (out .exit) ≡ listLeaves table (now (out .entry))) ⌝ }
+    ensures answer { λ r. ⌜ r ≡ listAnswer table (now (out .entry)) ⌝ }
+    ensures left { λ _. ⌜ now (out .exit) ≡ listLeaves table (now (out .entry)) ⌝ }
 {
-    choices::list_by(table, out, Rule::Low)
+    choices::list_by(table, out, Rule::Assured)
 }

@@ -5,8 +5,9 @@ use mathlib.Core.Bool.{true}
 use mathlib.Core.List.{List, [], _∷_, map}
 use native.Mathlib.Omega.{arith}
 use lib.Dec.{eqb·suc-zero}
-use Rattle.analysis.specs.Allowed.{isAllowed, allAllowed}
-use Rattle.analysis.proofs.Choice.{and-true, allowed-for, allowed-past}
+use Rattle.places.proofs.Tells.{true-both}
+use Rattle.analysis.specs.Common.Allowed.{isAllowed, allAllowed}
+use Rattle.analysis.proofs.Laws.Common.Choice.{allowed-for, allowed-past}
 use Rattle.choices.specs.Choices.{inRow, entriesFor}
 use Rattle.choices.specs.Stepping.{firstFor}
 
@@ -23,10 +24,10 @@ within-allowed zero q low high = allowed-past q .1 (omega arith)
 within-allowed (suc p) q low high = allowed-for (suc p) q (omega arith) .1 (rw (eqb·suc-zero p) at low, high)
 
 -- so the first one is
-pub first-entry : (p : ℕ) → isAllowed p (firstFor p) ≡ true
+pub first-fault : (p : ℕ) → isAllowed p (firstFor p) ≡ true
 unfolding firstFor
-first-entry zero = allowed-past 0 .1 refl
-first-entry (suc p) = rw (eqb·suc-zero p) (allowed-for (suc p) 1 (omega arith) .1 (omega arith))
+first-fault zero = allowed-past 0 .1 refl
+first-fault (suc p) = rw (eqb·suc-zero p) (allowed-for (suc p) 1 (omega arith) .1 (omega arith))
 
 -- the entries allowed at a place, in a row from the first one to p
 pub entries-first : (p : ℕ) → entriesFor p ≡ firstFor p ∷ inRow (suc (firstFor p)) (p - firstFor p)
@@ -40,4 +41,4 @@ entries-first (suc p) =
 pub first-allowed : (ps : List ℕ) → allAllowed ps (map firstFor ps) ≡ true
 unfolding allAllowed
 first-allowed [] = refl
-first-allowed (p ∷ ps) = and-true _ _ (first-entry p) (first-allowed ps)
+first-allowed (p ∷ ps) = true-both _ _ (first-fault p) (first-allowed ps)

@@ -14,18 +14,18 @@ use Rattle.choices.specs.Stepping.{firstFor, Carried, carried, nextOf}
 use Rattle.choices.proofs.Whole.{carried-at, carried-front}
 
 -- before the places below n are looked at: none rose from n on, and what the carry made of those places stands after the choice's own entries
-pub record Carrying (levels choice entries : List ℕ) (n : ℕ) : Type 0 where
+pub record Carrying (priorities choice entries : List ℕ) (n : ℕ) : Type 0 where
   pub reached : n ≤ 8
-  pub still : carried (drop n levels) (drop n choice) .rose ≡ false
-  pub content : entries ≡ take n choice ++ carried (drop n levels) (drop n choice) .entries
+  pub still : carried (drop n priorities) (drop n choice) .rose ≡ false
+  pub content : entries ≡ take n choice ++ carried (drop n priorities) (drop n choice) .entries
 
-module _ (levels choice : List ℕ) (eight : length levels ≡ 8) (eight′ : length choice ≡ 8) where
+module _ (priorities choice : List ℕ) (eight : length priorities ≡ 8) (eight′ : length choice ≡ 8) where
   -- past the last place there is nothing to carry
-  empty : carried (drop 8 levels) (drop 8 choice) ≡ record { rose = false; entries = [] }
+  empty : carried (drop 8 priorities) (drop 8 choice) ≡ record { rose = false; entries = [] }
   unfolding carried
-  empty = ap₂ carried (drop-of-length-le levels {i = 8} (omega arith)) (drop-of-length-le choice {i = 8} (omega arith))
+  empty = ap₂ carried (drop-of-length-le priorities {i = 8} (omega arith)) (drop-of-length-le choice {i = 8} (omega arith))
 
-  pub carrying-start : Carrying levels choice choice 8
+  pub carrying-start : Carrying priorities choice choice 8
   carrying-start =
       record {
         reached = omega arith;
@@ -33,8 +33,8 @@ module _ (levels choice : List ℕ) (eight : length levels ≡ 8) (eight′ : le
         content = sym (ap₂ _++_ (take-all 8 choice (omega arith)) (ap (λ (r : Carried). r .entries) empty) ∙ append-nil choice);
       }
 
-  module _ (entries : List ℕ) (k : ℕ) (at : Carrying levels choice entries (k + 1)) where
-    below : k < length levels
+  module _ (entries : List ℕ) (k : ℕ) (at : Carrying priorities choice entries (k + 1)) where
+    below : k < length priorities
     below = omega (arith, at .reached)
 
     below′ : k < length choice
@@ -42,7 +42,7 @@ module _ (levels choice : List ℕ) (eight : length levels ≡ 8) (eight′ : le
 
     -- what the carry made of the places after k
     abbrev later : List ℕ
-    later = carried (drop (k + 1) levels) (drop (k + 1) choice) .entries
+    later = carried (drop (k + 1) priorities) (drop (k + 1) choice) .entries
 
     split : take (k + 1) choice ++ later ≡ take k choice ++ getD choice k 0 ∷ later
     split = rw add-one (ap (λ (l : List ℕ). l ++ later) (take-suc choice k 0 below′) ∙ append-snoc (take k choice) (getD choice k 0) later)
@@ -55,24 +55,24 @@ module _ (levels choice : List ℕ) (eight : length levels ≡ 8) (eight′ : le
     entry-kept = ap (λ (l : List ℕ). getD l k 0) (at .content ∙ split) ∙ getD-at (take k choice) (getD choice k 0) later 0 k (length-take-le k choice (omega (arith, below′)))
 
     -- what the carry makes of the places from k on
-    from-here : carried (drop k levels) (drop k choice) ≡ record { rose = ltb (getD choice k 0) (getD levels k 0); entries = cond (ltb (getD choice k 0) (getD levels k 0)) (suc (getD choice k 0)) (firstFor (getD levels k 0)) ∷ later }
-    from-here = carried-at levels choice k below below′ (at .still)
+    from-here : carried (drop k priorities) (drop k choice) ≡ record { rose = ltb (getD choice k 0) (getD priorities k 0); entries = cond (ltb (getD choice k 0) (getD priorities k 0)) (suc (getD choice k 0)) (firstFor (getD priorities k 0)) ∷ later }
+    from-here = carried-at priorities choice k below below′ (at .still)
 
     -- an entry that cannot rise goes back to its first
-    pub carrying-more : getD levels k 0 ≤ getD choice k 0 → Carrying levels choice (set entries k (firstFor (getD levels k 0))) k
+    pub carrying-more : getD priorities k 0 ≤ getD choice k 0 → Carrying priorities choice (set entries k (firstFor (getD priorities k 0))) k
     carrying-more full =
-        let same = from-here ∙ ap (λ (b : Bool). record { rose = b; entries = cond b (suc (getD choice k 0)) (firstFor (getD levels k 0)) ∷ later }) (le-ltb (getD choice k 0) (getD levels k 0) full) in
+        let same = from-here ∙ ap (λ (b : Bool). record { rose = b; entries = cond b (suc (getD choice k 0)) (firstFor (getD priorities k 0)) ∷ later }) (le-ltb (getD choice k 0) (getD priorities k 0) full) in
         record {
           reached = omega (arith, at .reached);
           still = ap (λ (r : Carried). r .rose) same;
-          content = stored (firstFor (getD levels k 0)) ∙ ap (λ (r : Carried). take k choice ++ r .entries) (sym same);
+          content = stored (firstFor (getD priorities k 0)) ∙ ap (λ (r : Carried). take k choice ++ r .entries) (sym same);
         }
 
     -- an entry that can rise does, and the carry ends there
-    pub carrying-found : getD choice k 0 < getD levels k 0 → carried levels choice ≡ record { rose = true; entries = set entries k (suc (getD choice k 0)) }
+    pub carrying-found : getD choice k 0 < getD priorities k 0 → carried priorities choice ≡ record { rose = true; entries = set entries k (suc (getD choice k 0)) }
     carrying-found free =
-        let same = from-here ∙ ap (λ (b : Bool). record { rose = b; entries = cond b (suc (getD choice k 0)) (firstFor (getD levels k 0)) ∷ later }) (lt-ltb (getD choice k 0) (getD levels k 0) free) in
-        carried-front k levels choice (omega (arith, below)) (omega (arith, below′)) (ap (λ (r : Carried). r .rose) same)
+        let same = from-here ∙ ap (λ (b : Bool). record { rose = b; entries = cond b (suc (getD choice k 0)) (firstFor (getD priorities k 0)) ∷ later }) (lt-ltb (getD choice k 0) (getD priorities k 0) free) in
+        carried-front k priorities choice (omega (arith, below)) (omega (arith, below′)) (ap (λ (r : Carried). r .rose) same)
         ∙ ap (λ (l : List ℕ). record { rose = true; entries = l }) (ap (λ (r : Carried). take k choice ++ r .entries) same ∙ sym (stored (suc (getD choice k 0))))
 
 -- after a choice that is not all zero, the next is what the carry makes

@@ -10,9 +10,8 @@ use native.Mathlib.Omega.{arith}
 use borrow.Author.Tests.{eq-eqb, ne-eqb, lt-ltb, le-ltb}
 use lib.Dec.{eqb, ltb}
 use lib.ListN.{length, getD, set, replicate, length-append, length-map, getD-replicate}
-use Rattle.sheet.specs.Places.{someBelow, filledBelow}
-use Rattle.sheet.proofs.Turns.{length-filled}
-use Rattle.analysis.proofs.Choice.{filled-past}
+use Rattle.places.specs.Places.{someBelow, filledBelow}
+use Rattle.places.proofs.Filled.{length-filled, filled-past}
 use Rattle.choices.specs.Choices.{inRow, entriesFor, spread, choicesOf}
 use Rattle.choices.specs.Stepping.{factorial}
 

@@ -1,6 +1,6 @@
 -- The demands on the walk and the list in the request's words, about the definitions.
 -- What stands beside a refusal is in Refused.antt. Assumes nothing.
-use Prim.Native.Nat.{ℕ, zero, suc, _+_, _-_, _*_, _≤_, _<_}
+use Prim.Native.Nat.{ℕ, zero, suc, _-_, _*_, _≤_, _<_}
 use mathlib.Core.Path.{_≡_, refl, sym, ap, _∙_, subst}
 use mathlib.Core.Bool.{Bool, true, false, cond, _||_, or-true, true≢false}
 use mathlib.Core.List.{List, [], _∷_, List·Memᴰ as In, List·Memᴰ·head as here, List·Memᴰ·cases-cons as cases-cons, List·Memᴰ·not-nil as not-nil}
@@ -10,21 +10,23 @@ use borrow.Author.Tests.{eq-eqb, eqb-true}
 use lib.Dec.{eqb}
 use lib.ListN.{length, getD, take, drop}
 use lib.Seq.{drop-cons, drop-length}
+use Rattle.places.proofs.Tells.{tests, true-both, both-true}
 use Rattle.sheet.specs.declared.Table.{Table}
 use Rattle.sheet.specs.Layout.{recordAt}
 use Rattle.sheet.specs.Rules.{taken, tableRefusal}
 use Rattle.sheet.proofs.Order.{table-in-order}
 use Rattle.sheet.proofs.Cases.{good-table, good-at}
-use Rattle.sheet.proofs.Refused.{given-unless, tests}
-use Rattle.analysis.specs.Tasks.{Tasks, tasksOf, ownChoice}
-use Rattle.analysis.specs.Response.{responseTime, late, passes}
+use Rattle.sheet.proofs.Refused.{given-unless}
+use Rattle.analysis.specs.Common.Tasks.{Tasks, tasksOf, ownChoice}
+use Rattle.analysis.specs.Published.Response.{responseTime, late, passes}
 use Rattle.analysis.specs.declared.Rule.the-variants.{Published}
-use Rattle.analysis.specs.Judged.{holds, ruleRefusal}
-use Rattle.analysis.specs.Allowed.{levelsOf, allAllowed}
-use Rattle.analysis.proofs.Choice.{Allowed, and-true, both-true, allowed-exactly, own-allowed}
-use Rattle.analysis.proofs.Lowest.{response-lowest}
+use Rattle.analysis.specs.ByRule.{meets, ruleRefusal}
+use Rattle.analysis.specs.Common.Columns.{prioritiesOf}
+use Rattle.analysis.specs.Common.Allowed.{allAllowed}
+use Rattle.analysis.proofs.Laws.Common.Choice.{Allowed, allowed-exactly, own-allowed}
+use Rattle.analysis.proofs.Laws.Published.Lowest.{response-lowest}
 use Rattle.choices.specs.declared.Walk.{Walk}
-use Rattle.choices.specs.declared.Arrival.the-variants.{Passing, End}
+use Rattle.choices.specs.declared.Arrival.the-variants.{Found, End}
 use Rattle.choices.specs.declared.Stepped.{Stepped}
 use Rattle.choices.specs.Choices.{choicesOf, chosen, passingOf}
 use Rattle.choices.specs.Order.{before, allZero, afterOf}
@@ -54,7 +56,7 @@ zero-entries (q ∷ qs) e (suc place) = zero-entries qs (both-true (eqb q 0) (al
 entries-zero : (start : List ℕ) → Zero start → allZero start ≡ true
 unfolding allZero
 entries-zero [] each = refl
-entries-zero (q ∷ qs) each = and-true _ _ (eq-eqb q 0 (each 0)) (entries-zero qs (λ place. each (suc place)))
+entries-zero (q ∷ qs) each = true-both _ _ (eq-eqb q 0 (each 0)) (entries-zero qs (λ place. each (suc place)))
 
 -- "it may start before the first choice, shown by eight zero entries, or after any allowed one"
 abbrev pub MayStart : Table → List ℕ → Type 0
@@ -68,7 +70,7 @@ module _ (t : Table) (good : tableRefusal t ≡ 0) (start : List ℕ) (eight : l
     ⊎-elim (λ z. simp (entries-zero start z)) (λ w. rw (allowed-exactly t good start eight .1 w) (or-true (allZero start))),
   )
     where
-      go : (b : Bool) → allZero start ≡ b → (b || allAllowed (levelsOf t) start) ≡ true → MayStart t start
+      go : (b : Bool) → allZero start ≡ b → (b || allAllowed (prioritiesOf t) start) ≡ true → MayStart t start
       go true e said = inl (zero-entries start e)
       go false e said = inr (allowed-exactly t good start eight .0 said)
 
@@ -91,11 +93,11 @@ module _ (t : Table) (good : tableRefusal t ≡ 0) (start : List ℕ) (eight : l
 pub listed-exactly : (test : Tasks → Bool) (t : Table) → tableRefusal t ≡ 0 → (c : List ℕ) → In c (chosen test t) ↔ ((length c ≡ 8) × Allowed t c × (testWith test t c ≡ true))
 unfolding chosen
 listed-exactly test t good c =
-    let member = sift-members (testWith test t) (choicesOf (levelsOf t)) in (
+    let member = sift-members (testWith test t) (choicesOf (prioritiesOf t)) in (
       λ m.
           let eight = passing-eight test t good m .0 in
-          (eight, allowed-exactly t good c eight .0 (choices-sound (levelsOf t) (member .0 m .0)), member .0 m .1),
-      λ h. member .1 (choices-complete (levelsOf t) c (allowed-exactly t good c (h .0) .1 (h .1)), h .2),
+          (eight, allowed-exactly t good c eight .0 (choices-sound (prioritiesOf t) (member .0 m .0)), member .0 m .1),
+      λ h. member .1 (choices-complete (prioritiesOf t) c (allowed-exactly t good c (h .0) .1 (h .1)), h .2),
     )
 
 -- "strictly ascending, so each stands once"
@@ -108,8 +110,8 @@ listed-once test t j k h below same =
     true≢false (sym (listed-ascending test t j k h below) ∙ ap (before (getD (chosen test t) j [])) (sym same) ∙ before-irreflexive (getD (chosen test t) j []))
 
 -- "a good table of n records has n! choices"
-pub choices-count : (t : Table) → tableRefusal t ≡ 0 → length (choicesOf (levelsOf t)) ≡ factorial (t .count)
-unfolding levelsOf taken
+pub choices-count : (t : Table) → tableRefusal t ≡ 0 → length (choicesOf (prioritiesOf t)) ≡ factorial (t .count)
+unfolding prioritiesOf taken
 choices-count t good =
     let table = good-table t good in
     let each = good-at (t .count) (recordAt (t .records)) (table .records) in
@@ -118,7 +120,7 @@ choices-count t good =
 -- so no list is longer than that
 pub listed-few : (test : Tasks → Bool) (t : Table) → tableRefusal t ≡ 0 → length (chosen test t) ≤ factorial (t .count)
 unfolding chosen
-listed-few test t good = omega (arith, sift-fewer (testWith test t) (choicesOf (levelsOf t)), choices-count t good)
+listed-few test t good = omega (arith, sift-fewer (testWith test t) (choicesOf (prioritiesOf t)), choices-count t good)
 
 -- c is the first listed choice after a start: it is listed, comes after the start, and every other listed one after the start comes after it
 pub record FirstAfter (test : Tasks → Bool) (t : Table) (start c : List ℕ) : Type 0 where
@@ -138,7 +140,7 @@ unfoldable pub walkAfter : (Walk → Stepped) → ℕ → Walk
 walkAfter step zero = startWalk
 walkAfter step (suc k) = step (walkAfter step k) .walk
 
--- A walk through the choices of a good table for which a test holds, where a step is not refused from the start or from any allowed choice
+-- A walk through the choices of a good table for which a test meets, where a step is not refused from the start or from any allowed choice
 module _ (test : Tasks → Bool) (t : Table) (good : tableRefusal t ≡ 0) (refuses : List ℕ → ℕ) (may-go : (start : List ℕ) → starts t start ≡ true → refuses start ≡ 0) where
   -- a step of it
   abbrev pub stepOf : Walk → Stepped
@@ -154,11 +156,11 @@ module _ (test : Tasks → Bool) (t : Table) (good : tableRefusal t ≡ 0) (refu
     stepped = step-is w (starts-exactly t good (w .entries) eight .1 may)
 
     -- "the step after any allowed choice gives the first listed one after it, and says end exactly if none is left": what it gives is the first
-    pub first-given : (c : List ℕ) → stepOf w ≡ record { walk = record { entries = c }; arrival = Passing } → FirstAfter test t (w .entries) c
+    pub first-given : (c : List ℕ) → stepOf w ≡ record { walk = record { entries = c }; arrival = Found } → FirstAfter test t (w .entries) c
     unfolding arriveAt afterOf
     first-given c e = go (afterOf (w .entries) (chosen test t)) refl (sym stepped ∙ e)
       where
-        go : (l : List (List ℕ)) → afterOf (w .entries) (chosen test t) ≡ l → arriveAt w l ≡ record { walk = record { entries = c }; arrival = Passing } → FirstAfter test t (w .entries) c
+        go : (l : List (List ℕ)) → afterOf (w .entries) (chosen test t) ≡ l → arriveAt w l ≡ record { walk = record { entries = c }; arrival = Found } → FirstAfter test t (w .entries) c
         go [] same said = absurd (let stop = ap (λ (r : Stepped). r .arrival) said in let z : _≡_ {A = ℕ} 0 1 = cc in omega arith)
         go (d ∷ rest) same said =
             let found : afterOf (w .entries) (chosen test t) ≡ c ∷ rest = same ∙ ap (λ (x : List ℕ). x ∷ rest) (ap (λ (r : Stepped). r .walk .entries) said) in
@@ -172,15 +174,15 @@ module _ (test : Tasks → Bool) (t : Table) (good : tableRefusal t ≡ 0) (refu
             }
 
     -- and where there is one, the step gives it
-    pub gives-first : (c : List ℕ) → FirstAfter test t (w .entries) c → stepOf w ≡ record { walk = record { entries = c }; arrival = Passing }
+    pub gives-first : (c : List ℕ) → FirstAfter test t (w .entries) c → stepOf w ≡ record { walk = record { entries = c }; arrival = Found }
     unfolding arriveAt afterOf
     gives-first c first = go (afterOf (w .entries) (chosen test t)) refl
       where
-        go : (l : List (List ℕ)) → afterOf (w .entries) (chosen test t) ≡ l → stepOf w ≡ record { walk = record { entries = c }; arrival = Passing }
+        go : (l : List (List ℕ)) → afterOf (w .entries) (chosen test t) ≡ l → stepOf w ≡ record { walk = record { entries = c }; arrival = Found }
         go [] same = absurd (not-nil (subst (In c) same (sift-members (before (w .entries)) (chosen test t) .1 (first .is-listed, first .comes-after))))
         go (d ∷ rest) same =
             let gave = stepped ∙ ap (arriveAt w) same in
-            gave ∙ ap (λ (x : List ℕ). record { walk = record { entries = x }; arrival = Passing }) (one-first test t (w .entries) d c (first-given d gave) first)
+            gave ∙ ap (λ (x : List ℕ). record { walk = record { entries = x }; arrival = Found }) (one-first test t (w .entries) d c (first-given d gave) first)
 
     -- it says end exactly if none is left
     pub end-exactly : (stepOf w ≡ record { walk = w; arrival = End }) ↔ ((c : List ℕ) → In c (chosen test t) → before (w .entries) c ≡ false)
@@ -200,7 +202,7 @@ module _ (test : Tasks → Bool) (t : Table) (good : tableRefusal t ≡ 0) (refu
 
   -- "walking from the start until the end visits exactly the list": step k comes to the listed choice at place k, and the step after the last says end
   came : (k : ℕ) → starts t (walkAfter stepOf k .entries) ≡ true → k < length (chosen test t) → afterOf (walkAfter stepOf k .entries) (chosen test t) ≡ getD (chosen test t) k [] ∷ drop (suc k) (chosen test t)
-      → stepOf (walkAfter stepOf k) ≡ record { walk = record { entries = getD (chosen test t) k [] }; arrival = Passing }
+      → stepOf (walkAfter stepOf k) ≡ record { walk = record { entries = getD (chosen test t) k [] }; arrival = Found }
   unfolding arriveAt
   came k start h found = step-is (walkAfter stepOf k) start ∙ ap (arriveAt (walkAfter stepOf k)) found
 
@@ -215,7 +217,7 @@ module _ (test : Tasks → Bool) (t : Table) (good : tableRefusal t ≡ 0) (refu
       subst (λ (c : List ℕ). (starts t c ≡ true) × (afterOf c (chosen test t) ≡ drop (suc k) (chosen test t))) (sym here-now) (next .going-on, next .after)
 
   -- each step but the last comes to the choice at its place
-  pub visits-each : (k : ℕ) → k < length (chosen test t) → stepOf (walkAfter stepOf k) ≡ record { walk = record { entries = getD (chosen test t) k [] }; arrival = Passing }
+  pub visits-each : (k : ℕ) → k < length (chosen test t) → stepOf (walkAfter stepOf k) ≡ record { walk = record { entries = getD (chosen test t) k [] }; arrival = Found }
   visits-each k h =
       let at = stands k (omega arith) in
       came k (at .0) h (at .1 ∙ drop-cons (chosen test t) k [] h)
@@ -234,11 +236,11 @@ module _ (t : Table) (good : tableRefusal t ≡ 0) where
   may-pass start fine = good-start t start .1 (good, fine)
 
   module _ (w : Walk) (eight : length (w .entries) ≡ 8) (may : MayStart t (w .entries)) where
-    pub step-first : (c : List ℕ) → stepAnswer t w ≡ record { walk = record { entries = c }; arrival = Passing } → FirstAfter passes t (w .entries) c
+    pub step-first : (c : List ℕ) → stepAnswer t w ≡ record { walk = record { entries = c }; arrival = Found } → FirstAfter passes t (w .entries) c
     unfolding stepAnswer passingOf
     step-first = first-given passes t good (walkRefusal t) may-pass w eight may
 
-    pub step-gives : (c : List ℕ) → FirstAfter passes t (w .entries) c → stepAnswer t w ≡ record { walk = record { entries = c }; arrival = Passing }
+    pub step-gives : (c : List ℕ) → FirstAfter passes t (w .entries) c → stepAnswer t w ≡ record { walk = record { entries = c }; arrival = Found }
     unfolding stepAnswer passingOf
     step-gives = gives-first passes t good (walkRefusal t) may-pass w eight may
 
@@ -246,7 +248,7 @@ module _ (t : Table) (good : tableRefusal t ≡ 0) where
     unfolding stepAnswer passingOf
     step-end = end-exactly passes t good (walkRefusal t) may-pass w eight may
 
-  pub walk-visits : (k : ℕ) → k < length (passingOf t) → stepAnswer t (walkAfter (stepAnswer t) k) ≡ record { walk = record { entries = getD (passingOf t) k [] }; arrival = Passing }
+  pub walk-visits : (k : ℕ) → k < length (passingOf t) → stepAnswer t (walkAfter (stepAnswer t) k) ≡ record { walk = record { entries = getD (passingOf t) k [] }; arrival = Found }
   unfolding stepAnswer passingOf
   walk-visits = visits-each passes t good (walkRefusal t) may-pass
 
@@ -265,7 +267,7 @@ list-bytes t out = list-put (listRefusal t out) (passingOf t) out
 
 -- where the lowest task is late the list is empty
 late-none : (t : Table) → tableRefusal t ≡ 0 → lowestLate t ≡ true → passingOf t ≡ []
-unfolding passingOf holds ruleRefusal
+unfolding passingOf meets ruleRefusal
 late-none t good = tested-none t Published good
 
 -- document 02, request 8, about the lowest task of a table. Every good table has one and only one: `lowest-there` and `lowest-once` of LowestTask.antt.

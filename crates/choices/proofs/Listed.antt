@@ -1,33 +1,34 @@
 -- Going through the list of the choices for which a test holds one by one: what comes after each, and that each can be gone on from. Assumes nothing.
-use Prim.Native.Nat.{ℕ, zero, suc, _+_, _*_, _≤_, _<_}
+use Prim.Native.Nat.{ℕ, suc, _+_, _*_, _≤_, _<_}
 use mathlib.Core.Path.{_≡_, refl, sym, ap, ap₂, _∙_, subst}
-use mathlib.Core.Bool.{Bool, true, false, cond, _||_, true≢false}
+use mathlib.Core.Bool.{Bool, true, false, cond, _||_, true≢false, or-true}
 use mathlib.Core.List.{List, [], _∷_, List·Memᴰ as In, List·Memᴰ·head as here}
 use native.Mathlib.Numerals.{add-one}
 use native.Mathlib.Omega.{arith}
 use borrow.Author.Tests.{lt-ltb, le-ltb}
-use lib.ListN.{length, getD, set, drop, replicate, length-drop}
+use lib.ListN.{length, getD, drop, replicate, length-drop}
 use lib.Seq.{drop-cons}
+use Rattle.places.proofs.Filled.{alike-at, filled-within}
+use Rattle.places.proofs.Refusals.{first-of, next-of}
 use Rattle.sheet.specs.declared.Table.{Table}
-use Rattle.sheet.specs.Places.{filledBelow}
 use Rattle.sheet.specs.Layout.{recordAt}
 use Rattle.sheet.specs.Rules.{tableRefusal}
-use Rattle.sheet.proofs.Turns.{first-of, next-of}
 use Rattle.sheet.proofs.Cases.{good-table, good-at}
-use Rattle.analysis.specs.Tasks.{Tasks}
-use Rattle.analysis.specs.Allowed.{levelsOf, allAllowed}
-use Rattle.analysis.proofs.Choice.{entry-allowed, allowed-length, alike-at, length-levels}
+use Rattle.analysis.specs.Common.Tasks.{Tasks}
+use Rattle.analysis.specs.Common.Columns.{prioritiesOf}
+use Rattle.analysis.specs.Common.Allowed.{allAllowed}
+use Rattle.analysis.proofs.Laws.Common.Choice.{fault-allowed, allowed-length, length-priorities}
 use Rattle.choices.specs.Choices.{choicesOf, sift, chosen}
 use Rattle.choices.specs.Order.{before, allZero, afterOf}
 use Rattle.choices.specs.Answers.{bytesOf, roomRefusal, listFrom, leavesFrom}
-use Rattle.choices.specs.declared.Found.{Found}
+use Rattle.choices.specs.declared.Later.{Later}
 use Rattle.choices.specs.Stepping.{small, foundIn}
 use Rattle.choices.proofs.Sifted.{sift-drops, sift-all}
 use Rattle.choices.proofs.Allowed.{allowed-within}
 use Rattle.choices.proofs.Onward.{zero-before-sift}
 use Rattle.choices.proofs.Members.{sift-members, choices-sound}
 use Rattle.choices.proofs.Ordered.{before-irreflexive, before-asymmetric, before-transitive, Ascending, none, more, sift-ascending, choices-ascending}
-use Rattle.choices.proofs.Advancing.{testWith, starts, first-level}
+use Rattle.choices.proofs.Advancing.{testWith, starts, first-priority}
 
 -- in an ascending list, what comes after the first one found after a start is what was found after it
 pub after-first : (w c : List ℕ) (rest : List (List ℕ)) {l : List (List ℕ)} → Ascending l → afterOf w l ≡ c ∷ rest → afterOf c l ≡ rest
@@ -47,34 +48,21 @@ after-first w c rest (more {c = d} {l = l} later up) e = go (before w d) refl (a
 
 pub passing-ascending : (test : Tasks → Bool) (t : Table) → Ascending (chosen test t)
 unfolding chosen
-passing-ascending test t = sift-ascending (testWith test t) (choices-ascending (levelsOf t))
+passing-ascending test t = sift-ascending (testWith test t) (choices-ascending (prioritiesOf t))
 
 -- a choice for which the test holds is allowed
-pub passing-allowed : (test : Tasks → Bool) (t : Table) {c : List ℕ} → In c (chosen test t) → allAllowed (levelsOf t) c ≡ true
+pub passing-allowed : (test : Tasks → Bool) (t : Table) {c : List ℕ} → In c (chosen test t) → allAllowed (prioritiesOf t) c ≡ true
 unfolding chosen
-passing-allowed test t m = choices-sound (levelsOf t) (sift-members (testWith test t) (choicesOf (levelsOf t)) .0 m .0)
+passing-allowed test t m = choices-sound (prioritiesOf t) (sift-members (testWith test t) (choicesOf (prioritiesOf t)) .0 m .0)
 
--- no entry of an allowed choice is above its level
+-- no entry of an allowed choice is above its priority
 entry-within : (ps c : List ℕ) → allAllowed ps c ≡ true → (k : ℕ) → getD c k 0 ≤ getD ps k 0
-entry-within ps c e k = allowed-within (getD ps k 0) (getD c k 0) (entry-allowed ps c e k) .1
-
--- a store of what is within a bound leaves a list within it
-set-within : (m : ℕ) (l : List ℕ) (i v : ℕ) → v ≤ m → ((k : ℕ) → getD l k 0 ≤ m) → (k : ℕ) → getD (set l i v) k 0 ≤ m
-set-within m [] i v h each k = each k
-set-within m (x ∷ l) zero v h each zero = h
-set-within m (x ∷ l) zero v h each (suc k) = each (suc k)
-set-within m (x ∷ l) (suc i) v h each zero = each 0
-set-within m (x ∷ l) (suc i) v h each (suc k) = set-within m l i v h (λ j. each (suc j)) k
-
-filled-within : (m : ℕ) (f : ℕ → ℕ) (room : List ℕ) → ((k : ℕ) → getD room k 0 ≤ m) → (n : ℕ) → ((k : ℕ) → k < n → f k ≤ m) → (k : ℕ) → getD (filledBelow f n room) k 0 ≤ m
-unfolding filledBelow
-filled-within m f room empty zero each = empty
-filled-within m f room empty (suc n) each = set-within m (filledBelow f n room) n (f n) (each n (omega arith)) (filled-within m f room empty n (λ k h. each k (omega arith)))
+entry-within ps c e k = allowed-within (getD ps k 0) (getD c k 0) (fault-allowed ps c e k) .1
 
 module _ (test : Tasks → Bool) (t : Table) (good : tableRefusal t ≡ 0) where
-  level-within : (k : ℕ) → getD (levelsOf t) k 0 ≤ 8
-  unfolding levelsOf
-  level-within =
+  priority-within : (k : ℕ) → getD (prioritiesOf t) k 0 ≤ 8
+  unfolding prioritiesOf
+  priority-within =
       let known = good-table t good in
       filled-within 8 (λ place. recordAt (t .records) place .priority) (replicate 8 0) (λ k. omega (arith, alike-at {A = ℕ} 0 8 k)) (t .count)
       (λ k h. omega (arith, good-at (t .count) (recordAt (t .records)) (known .records) k h .priority .1, known .count .1))
@@ -84,12 +72,12 @@ module _ (test : Tasks → Bool) (t : Table) (good : tableRefusal t ≡ 0) where
   unfolding small
   passing-eight {c} member =
       let allowed = passing-allowed test t member in
-      (allowed-length (levelsOf t) c allowed ∙ length-levels t, λ k. omega (arith, entry-within (levelsOf t) c allowed k, level-within k))
+      (allowed-length (prioritiesOf t) c allowed ∙ length-priorities t, λ k. omega (arith, entry-within (prioritiesOf t) c allowed k, priority-within k))
 
   -- before the first choice stands every one
   pub from-start : afterOf (replicate 8 0) (chosen test t) ≡ chosen test t
   unfolding chosen allZero
-  from-start = zero-before-sift (levelsOf t) (replicate 8 0) (testWith test t) (first-level t good) refl (sym (length-levels t))
+  from-start = zero-before-sift (prioritiesOf t) (replicate 8 0) (testWith test t) (first-priority t good) refl (sym (length-priorities t))
 
   pub start-allowed : starts t (replicate 8 0) ≡ true
   unfolding allZero
@@ -111,10 +99,6 @@ module _ (test : Tasks → Bool) (t : Table) (good : tableRefusal t ≡ 0) where
         after = after-first w c rest (passing-ascending test t) e;
         narrow = passing-eight member .1;
       }
-    where
-      or-true : (b : Bool) → (b || true) ≡ true
-      or-true true = refl
-      or-true false = refl
 
   -- a turn of going through the list: the choice found after the first n is the one at place n
   pub record Turn (n : ℕ) (c : List ℕ) : Type 0 where
@@ -135,15 +119,15 @@ module _ (test : Tasks → Bool) (t : Table) (good : tableRefusal t ≡ 0) where
       record { below = below; same = head; after = next .after ∙ tail ∙ ap (λ (k : ℕ). drop k (chosen test t)) (sym (add-one n)); going-on = next .going-on; narrow = next .narrow }
 
 -- what is found in a list is its first, and nothing only in an empty one
-pub found-there : (w : List ℕ) (l : List (List ℕ)) (f : Found) → f ≡ foundIn w l → f .«is_there» ≡ true → l ≡ f .choice ∷ drop 1 l
+pub found-there : (w : List ℕ) (l : List (List ℕ)) (f : Later) → f ≡ foundIn w l → f .«is_there» ≡ true → l ≡ f .choice ∷ drop 1 l
 unfolding foundIn
-found-there w [] f e h = absurd (true≢false (sym h ∙ ap (λ (g : Found). g .«is_there») e))
-found-there w (c ∷ l) f e h = ap (λ (x : List ℕ). x ∷ l) (sym (ap (λ (g : Found). g .choice) e))
+found-there w [] f e h = absurd (true≢false (sym h ∙ ap (λ (g : Later). g .«is_there») e))
+found-there w (c ∷ l) f e h = ap (λ (x : List ℕ). x ∷ l) (sym (ap (λ (g : Later). g .choice) e))
 
-pub found-none : (w : List ℕ) (l : List (List ℕ)) (f : Found) → f ≡ foundIn w l → f .«is_there» ≡ false → l ≡ []
+pub found-none : (w : List ℕ) (l : List (List ℕ)) (f : Later) → f ≡ foundIn w l → f .«is_there» ≡ false → l ≡ []
 unfolding foundIn
 found-none w [] f e h = refl
-found-none w (c ∷ l) f e h = absurd (true≢false (sym (ap (λ (g : Found). g .«is_there») e) ∙ h))
+found-none w (c ∷ l) f e h = absurd (true≢false (sym (ap (λ (g : Later). g .«is_there») e) ∙ h))
 
 -- the refusals of a list, after one that comes first
 module _ (refusal : ℕ) (list : List (List ℕ)) (out : List ℕ) where

@@ -1,4 +1,4 @@
--- The lowest task of a good table: there is one, looking for it place by place ends at it, and where it is late no choice holds by either rule. Assumes nothing.
+-- The lowest task of a good table: there is one, looking for it place by place ends at it, and where it is late no choice meets by either rule. Assumes nothing.
 use Prim.Native.Nat.{ℕ, _-_, _<_}
 use mathlib.Core.Path.{_≡_, refl, sym, ap, _∙_}
 use mathlib.Core.Bool.{Bool, true, false, not, _&&_, true≢false}
@@ -8,30 +8,33 @@ use native.Mathlib.Omega.{arith}
 use borrow.Author.Tests.{eq-eqb, ne-eqb}
 use lib.Dec.{eqb}
 use lib.ListN.{getD}
+use Rattle.places.specs.Places.{someBelow}
+use Rattle.places.proofs.Tells.{true-both}
+use Rattle.places.proofs.Some.{some-found, some-none}
 use Rattle.sheet.specs.declared.Record.{Record}
 use Rattle.sheet.specs.declared.Table.{Table}
-use Rattle.sheet.specs.Places.{someBelow}
 use Rattle.sheet.specs.Layout.{recordAt}
 use Rattle.sheet.specs.Rules.{tableRefusal}
 use Rattle.sheet.proofs.Cases.{good-table}
 use Rattle.sheet.proofs.Ranks.{ranked, each-there}
 use Rattle.analysis.specs.declared.Rule.{Rule}
-use Rattle.analysis.specs.declared.Rule.the-variants.{Published, Low}
-use Rattle.analysis.specs.Tasks.{tasksOf, ownChoice}
-use Rattle.analysis.specs.Response.{responseTime, isLate, late, passes}
-use Rattle.analysis.specs.Low.{unassured, assured}
-use Rattle.analysis.specs.Allowed.{levelsOf}
-use Rattle.analysis.specs.Judged.{holds, ruleRefusal}
+use Rattle.analysis.specs.declared.Rule.the-variants.{Published, Assured}
+use Rattle.analysis.specs.Common.Tasks.{tasksOf, ownChoice}
+use Rattle.analysis.specs.Published.Response.{responseTime, late, passes}
+use Rattle.analysis.specs.Common.Entries.{isLate, ownTasks, saysLate, verdictOf}
+use Rattle.analysis.specs.Assured.Time.{unassured, assured}
+use Rattle.analysis.specs.Common.Columns.{prioritiesOf}
+use Rattle.analysis.specs.ByRule.{meets, ruleRefusal}
 use Rattle.analysis.specs.declared.Timed.{Timed}
-use Rattle.analysis.specs.Answers.{ownTasks, saysLate, timedAnswer}
-use Rattle.analysis.proofs.Verdicts.{some-found, none-below}
-use Rattle.analysis.proofs.Choice.{Allowed, and-true, allowed-exactly, allowed-length, length-levels, own-allowed}
+use Rattle.analysis.specs.Published.Answers.{timedAnswer}
+use Rattle.analysis.proofs.Laws.Common.Choice.{Allowed, allowed-exactly, allowed-length, length-priorities, own-allowed}
 use Rattle.analysis.proofs.Refused.{timed-given}
-use Rattle.analysis.proofs.Lowest.{response-lowest}
-use Rattle.analysis.specs.Bounds.{verdictOf, hopeless, hopelessAnswer}
-use Rattle.analysis.proofs.Borne.{hopeless-fails}
-use Rattle.analysis.proofs.Lowered.{raised-unassured, hopeless-unassured}
-use Rattle.analysis.proofs.Judging.{rule-good, rule-whole}
+use Rattle.analysis.proofs.Laws.Published.Lowest.{response-lowest}
+use Rattle.analysis.specs.Bounds.Hopeless.{hopeless, hopelessAnswer}
+use Rattle.analysis.proofs.Laws.Bounds.Passing.{hopeless-fails}
+use Rattle.analysis.proofs.Laws.Assured.Asked.{raised-unassured}
+use Rattle.analysis.proofs.Laws.Bounds.Assured.{hopeless-unassured}
+use Rattle.analysis.proofs.Laws.ByRule.{rule-good}
 use Rattle.choices.specs.Choices.{choicesOf, chosen}
 use Rattle.choices.specs.Lowest.{Lowest, lowestLate}
 use Rattle.choices.proofs.Sifted.{sift-none}
@@ -78,8 +81,8 @@ module _ (t : Table) (good : tableRefusal t ≡ 0) where
       other e k below (no some) = rw (ne-eqb _ 1 some) refl
 
       go : (b : Bool) → late (ownTasks t) place ≡ b → someBelow (λ k. hasOne (t .records) k && late (ownTasks t) k) (t .count) ≡ b
-      go true e = some-found (λ k. hasOne (t .records) k && late (ownTasks t) k) place (t .count) (at .0) (and-true _ _ (eq-eqb _ 1 (at .1)) e)
-      go false e = none-below (λ k. hasOne (t .records) k && late (ownTasks t) k) (t .count) (λ k below. other e k below (ℕ-discrete (recordAt (t .records) k .priority) 1))
+      go true e = some-found (λ k. hasOne (t .records) k && late (ownTasks t) k) place (t .count) (at .0) (true-both _ _ (eq-eqb _ 1 (at .1)) e)
+      go false e = some-none (λ k. hasOne (t .records) k && late (ownTasks t) k) (t .count) (λ k below. other e k below (ℕ-discrete (recordAt (t .records) k .priority) 1))
 
   -- and so does the answer of `response_time` for it
   pub lowest-said : (place : ℕ) → Lowest t place → (answer : Timed) → answer ≡ timedAnswer t place → saysLate (answer .entry .outcome) ≡ lowestLate t
@@ -90,38 +93,38 @@ module _ (t : Table) (good : tableRefusal t ≡ 0) where
       go true is = ap saysLate (timed-given t place good (at .0) .1 .is-late is)
       go false is = ap saysLate (timed-given t place good (at .0) .1 .is-on-time is)
 
--- where it says late, no choice holds by a rule, since the lowest task is late under each; nor where some record misses its own backup
+-- where it says late, no choice meets by a rule, since the lowest task is late under each; nor where some record misses its own backup
 module _ (t : Table) where
-  late-fails : (rule : Rule) → ruleRefusal rule t ≡ 0 → lowestLate t ≡ true → (choice : List ℕ) → Allowed t choice → testWith (holds rule) t choice ≡ false
-  unfolding holds passes assured
+  late-fails : (rule : Rule) → ruleRefusal rule t ≡ 0 → lowestLate t ≡ true → (choice : List ℕ) → Allowed t choice → testWith (meets rule) t choice ≡ false
+  unfolding meets passes assured
   late-fails Published fine is choice allowed =
       let good = rule-good Published t fine in
       let at = lowest-there t good in
       let late-too = lowest-late-same t (at .0) (at .1) choice (ownChoice t) allowed (own-allowed t good) ∙ sym (lowest-tested t good (at .0) (at .1)) ∙ is in
       ap not (some-found (late (tasksOf t (t .interval) choice)) (at .0) (t .count) (at .1 .0) late-too)
-  late-fails Low fine is choice allowed =
-      let good = rule-good Low t fine in
+  late-fails Assured fine is choice allowed =
+      let good = rule-good Assured t fine in
       let at = lowest-there t good in
       let late-too = lowest-late-same t (at .0) (at .1) choice (ownChoice t) allowed (own-allowed t good) ∙ sym (lowest-tested t good (at .0) (at .1)) ∙ is in
       let raised : getD choice (at .0) 0 ≡ recordAt (t .records) (at .0) .priority = omega (arith, allowed .each (at .0) (at .1 .0), at .1 .1) in
-      ap not (some-found (unassured (tasksOf t (t .interval) choice)) (at .0) (t .count) (at .1 .0) (raised-unassured t good (rule-whole t fine) choice (allowed .each) (at .0) (at .1 .0) raised ∙ late-too))
+      ap not (some-found (unassured (tasksOf t (t .interval) choice)) (at .0) (t .count) (at .1 .0) (raised-unassured t good choice (allowed .each) (at .0) (at .1 .0) raised ∙ late-too))
 
-  missed-fails : (rule : Rule) → ruleRefusal rule t ≡ 0 → hopeless t ≡ true → (choice : List ℕ) → Allowed t choice → testWith (holds rule) t choice ≡ false
-  unfolding holds
+  missed-fails : (rule : Rule) → ruleRefusal rule t ≡ 0 → hopeless t ≡ true → (choice : List ℕ) → Allowed t choice → testWith (meets rule) t choice ≡ false
+  unfolding meets
   missed-fails Published fine some choice allowed = hopeless-fails t (rule-good Published t fine) choice (allowed .each) some
-  missed-fails Low fine some choice allowed = hopeless-unassured t (rule-good Low t fine) (rule-whole t fine) choice (allowed .each) some
+  missed-fails Assured fine some choice allowed = hopeless-unassured t (rule-good Assured t fine) choice (allowed .each) some
 
   module _ (rule : Rule) (fine : ruleRefusal rule t ≡ 0) where
-    none-holds : ((choice : List ℕ) → Allowed t choice → testWith (holds rule) t choice ≡ false) → chosen (holds rule) t ≡ []
+    none-meets : ((choice : List ℕ) → Allowed t choice → testWith (meets rule) t choice ≡ false) → chosen (meets rule) t ≡ []
     unfolding chosen
-    none-holds fails =
-        sift-none (testWith (holds rule) t) (choicesOf (levelsOf t)) (λ choice member.
-        let sound = choices-sound (levelsOf t) member in
-        fails choice (allowed-exactly t (rule-good rule t fine) choice (allowed-length (levelsOf t) choice sound ∙ length-levels t) .0 sound))
+    none-meets fails =
+        sift-none (testWith (meets rule) t) (choicesOf (prioritiesOf t)) (λ choice member.
+        let sound = choices-sound (prioritiesOf t) member in
+        fails choice (allowed-exactly t (rule-good rule t fine) choice (allowed-length (prioritiesOf t) choice sound ∙ length-priorities t) .0 sound))
 
-    pub tested-none : lowestLate t ≡ true → chosen (holds rule) t ≡ []
-    tested-none is = none-holds (late-fails rule fine is)
+    pub tested-none : lowestLate t ≡ true → chosen (meets rule) t ≡ []
+    tested-none is = none-meets (late-fails rule fine is)
 
-    pub hopeless-none : hopelessAnswer t .yes ≡ true → chosen (holds rule) t ≡ []
+    pub hopeless-none : hopelessAnswer t .yes ≡ true → chosen (meets rule) t ≡ []
     unfolding hopelessAnswer verdictOf
-    hopeless-none is = none-holds (missed-fails rule fine (sym (simp (eq-eqb (tableRefusal t) 0 (rule-good rule t fine))) ∙ is))
+    hopeless-none is = none-meets (missed-fails rule fine (sym (simp (eq-eqb (tableRefusal t) 0 (rule-good rule t fine))) ∙ is))

@@ -6,11 +6,11 @@ use mathlib.Core.List.{List, [], _∷_, _++_, map, List·Memᴰ as In, List·Mem
 use mathlib.Core.Logic.{_↔_, _⊎_, inl, inr}
 use native.Mathlib.Nat.{eq-or-lt-of-le}
 use native.Mathlib.Omega.{arith}
-use Rattle.analysis.specs.Allowed.{isAllowed, allAllowed}
-use Rattle.analysis.proofs.Choice.{and-true, both-true}
+use Rattle.places.proofs.Tells.{true-both, both-true}
+use Rattle.analysis.specs.Common.Allowed.{isAllowed, allAllowed}
 use Rattle.choices.specs.Choices.{inRow, entriesFor, spread, choicesOf, sift}
 use Rattle.choices.specs.Stepping.{firstFor}
-use Rattle.choices.proofs.Allowed.{allowed-within, within-allowed, first-entry, entries-first}
+use Rattle.choices.proofs.Allowed.{allowed-within, within-allowed, first-fault, entries-first}
 
 module _ {A : Type 0} (test : A → Bool) {a : A} where
   -- a sift's member is the list's and passes
@@ -86,7 +86,7 @@ entry-allowed : (p q : ℕ) → In q (entriesFor p) → isAllowed p q ≡ true
 unfolding inRow
 entry-allowed p q m =
     let range : (firstFor p ≤ q) × (q < firstFor p + suc (p - firstFor p)) = row-member q (firstFor p) (suc (p - firstFor p)) (subst (In q) (entries-first p) m) in
-    let some : firstFor p ≤ p = allowed-within p (firstFor p) (first-entry p) .1 in
+    let some : firstFor p ≤ p = allowed-within p (firstFor p) (first-fault p) .1 in
     within-allowed p q (range .0) (omega arith)
 
 -- an entry allowed there is a member
@@ -102,7 +102,7 @@ unfolding choicesOf allAllowed
 choices-sound [] m = ap (allAllowed []) (eq-of-singleton m)
 choices-sound (p ∷ ps) m =
     let r = spread-member (entriesFor p) (choicesOf ps) m in
-    ap (allAllowed (p ∷ ps)) (sym (r .4)) ∙ and-true _ _ (entry-allowed p (r .0) (r .2)) (choices-sound ps (r .3))
+    ap (allAllowed (p ∷ ps)) (sym (r .4)) ∙ true-both _ _ (entry-allowed p (r .0) (r .2)) (choices-sound ps (r .3))
 
 -- each allowed choice is a member
 pub choices-complete : (ps c : List ℕ) → allAllowed ps c ≡ true → In c (choicesOf ps)

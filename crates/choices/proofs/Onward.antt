@@ -10,14 +10,15 @@ use native.Mathlib.Omega.{arith}
 use borrow.Author.Tests.{lt-ltb, le-ltb, ltb-true, ltb-false, eq-eqb, ne-eqb, eqb-true}
 use lib.Dec.{eqb, ltb}
 use lib.ListN.{length, getD}
-use Rattle.analysis.specs.Allowed.{isAllowed, allAllowed}
-use Rattle.analysis.proofs.Choice.{and-true, both-true, allowed-length}
-use Rattle.choices.specs.declared.Found.{Found}
+use Rattle.places.proofs.Tells.{true-both, both-true}
+use Rattle.analysis.specs.Common.Allowed.{isAllowed, allAllowed}
+use Rattle.analysis.proofs.Laws.Common.Choice.{allowed-length}
+use Rattle.choices.specs.declared.Later.{Later}
 use Rattle.choices.specs.Choices.{inRow, entriesFor, spread, choicesOf, sift}
 use Rattle.choices.specs.Order.{before, allZero, afterOf}
 use Rattle.choices.specs.Stepping.{firstFor, Carried, carried, nextOf}
 use Rattle.choices.proofs.Sifted.{sift-all, sift-none, sift-join, sift-map, sift-sift-commute}
-use Rattle.choices.proofs.Allowed.{allowed-within, within-allowed, first-entry, entries-first, first-allowed}
+use Rattle.choices.proofs.Allowed.{allowed-within, within-allowed, first-fault, entries-first, first-allowed}
 
 -- each of the rests after an entry
 abbrev under : ℕ → List (List ℕ) → List (List ℕ)
@@ -91,7 +92,7 @@ unfolding choicesOf afterOf before sift spread
 choices-first [] = refl
 choices-first (p ∷ ps) =
     ap (λ (row : List ℕ). spread row (choicesOf ps)) (entries-first p)
-    ∙ entry-first p (firstFor p) (map firstFor ps) (choicesOf ps) (first-entry p) (choices-first ps)
+    ∙ entry-first p (firstFor p) (map firstFor ps) (choicesOf ps) (first-fault p) (choices-first ps)
 
 -- what a carry says of the choices after c: it rose to the next one, or it is all first entries again and none is left
 data Carries (ps c : List ℕ) : Carried → Type 0 where
@@ -104,7 +105,7 @@ carry-entry : (p q : ℕ) (ps qs : List ℕ) → isAllowed p q ≡ true → {r :
     (cond (r .rose) (record { rose = true; entries = q ∷ r .entries }) (record { rose = ltb q p; entries = cond (ltb q p) (suc q) (firstFor p) ∷ r .entries }))
 unfolding choicesOf allAllowed inRow spread
 carry-entry p q ps qs allowed (rises {next = next} good e) =
-    rises (and-true _ _ allowed good)
+    rises (true-both _ _ allowed good)
     (after-entry p q qs (choicesOf ps) allowed
     ∙ ap (λ (r : List (List ℕ)). under q r ++ spread (inRow (suc q) (p - q)) (choicesOf ps)) e
     ∙ ap (λ (r : List (List ℕ)). (q ∷ next) ∷ r) (sym (after-entry p q next (choicesOf ps) allowed)))
@@ -119,7 +120,7 @@ carry-entry p q ps qs allowed (ends e) = go (ltb q p) refl
         let lt : q < p = ltb-true q p h in
         let raised : isAllowed p (suc q) ≡ true = within-allowed p (suc q) (omega arith) lt in
         let left : p - q ≡ suc (p - suc q) = omega arith in
-        rises (and-true _ _ raised (first-allowed ps))
+        rises (true-both _ _ raised (first-allowed ps))
         (above ∙ ap (λ (n : ℕ). spread (inRow (suc q) n) (choicesOf ps)) left ∙ entry-first p (suc q) (map firstFor ps) (choicesOf ps) raised (choices-first ps))
     go false h =
         let left : p - q ≡ 0 = omega (arith, ltb-false q p h) in
@@ -144,7 +145,7 @@ next-allowed ps c = go (allZero c)
     kept (rises good e) = good
     kept (ends e) = first-allowed ps
 
-    go : (zeros : Bool) → (zeros || allAllowed ps c) ≡ true → allAllowed ps (cond {A = Found} zeros (record { «is_there» = true; choice = map firstFor ps }) (record { «is_there» = carried ps c .rose; choice = carried ps c .entries }) .choice) ≡ true
+    go : (zeros : Bool) → (zeros || allAllowed ps c) ≡ true → allAllowed ps (cond {A = Later} zeros (record { «is_there» = true; choice = map firstFor ps }) (record { «is_there» = carried ps c .rose; choice = carried ps c .entries }) .choice) ≡ true
     go true start = first-allowed ps
     go false start = kept (carries ps c start)
 
@@ -167,7 +168,7 @@ pub zero-before-sift : (ps c : List ℕ) (test : List ℕ → Bool) → 1 ≤ ge
 zero-before-sift ps c test some zeros same = sift-sift-commute c test (choicesOf ps) ∙ ap (sift test) (zero-before-all ps c some zeros same)
 
 -- a choice found and those after it, or none
-abbrev pub onward : List ℕ → Found → List (List ℕ)
+abbrev pub onward : List ℕ → Later → List (List ℕ)
 onward ps f = cond (f .«is_there») (f .choice ∷ afterOf (f .choice) (choicesOf ps)) []
 
 -- what comes after the start, or after an allowed choice, is the next one and what comes after that

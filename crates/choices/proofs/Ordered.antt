@@ -9,7 +9,7 @@ use native.Mathlib.Omega.{arith}
 use borrow.Author.Tests.{lt-ltb, le-ltb, ltb-true, eq-eqb, ne-eqb, eqb-true}
 use lib.Dec.{eqb, ltb}
 use lib.ListN.{length, getD}
-use Rattle.analysis.proofs.Choice.{both-true}
+use Rattle.places.proofs.Tells.{both-true}
 use Rattle.choices.specs.Choices.{inRow, entriesFor, spread, choicesOf, sift}
 use Rattle.choices.specs.Order.{before}
 use Rattle.choices.proofs.Members.{sift-members, row-member, spread-member}

@@ -8,13 +8,13 @@ use native.Mathlib.Omega.{arith}
 use borrow.Author.Tests.{eq-eqb, ne-eqb}
 use lib.ListN.{length, getD, take, drop}
 use lib.Seq.{drop-at}
+use Rattle.places.proofs.Tells.{ltb-tells}
+use Rattle.places.proofs.Filled.{alike-at}
 use Rattle.sheet.specs.declared.Table.{Table}
 use Rattle.sheet.specs.Rules.{tableRefusal}
-use Rattle.sheet.proofs.Tells.{ltb-tells}
 use Rattle.sheet.proofs.Order.{table-in-order}
 use Rattle.sheet.proofs.Refused.{given-if}
-use Rattle.analysis.specs.Response.{passes}
-use Rattle.analysis.proofs.Choice.{alike-at}
+use Rattle.analysis.specs.Published.Response.{passes}
 use Rattle.choices.specs.declared.Walk.{Walk}
 use Rattle.choices.specs.declared.Arrival.the-variants.{Refused}
 use Rattle.choices.specs.Choices.{passingOf}

@@ -8,9 +8,9 @@ use native.Mathlib.Omega.{arith}
 use lib.Dec.{eqb, ltb}
 use lib.ListN.{length, getD, take, drop, replicate}
 use lib.Seq.{take-all}
-use Rattle.sheet.specs.Places.{filledBelow}
+use Rattle.places.specs.Places.{filledBelow}
 use Rattle.sheet.proofs.Spelled.{spelled-take}
-use Rattle.analysis.proofs.Choice.{rest-at}
+use Rattle.analysis.proofs.Laws.Common.Choice.{rest-at}
 use Rattle.choices.specs.Order.{allZero}
 use Rattle.choices.specs.Stepping.{firstFor, Carried, carried}
 

@@ -4,15 +4,16 @@ use mathlib.Core.Bool.{cond, _||_}
 use mathlib.Core.List.{List, [], _∷_, _++_}
 use lib.Dec.{eqb, ltb}
 use lib.ListN.{length, drop, replicate}
+use Rattle.places.specs.Refusals.{orElse}
 use Rattle.sheet.specs.declared.Table.{Table}
-use Rattle.sheet.specs.Places.{orElse}
 use Rattle.sheet.specs.Packing.{regrouped}
 use Rattle.sheet.specs.Rules.{tableRefusal}
 use Rattle.analysis.specs.declared.Rule.{Rule}
-use Rattle.analysis.specs.Allowed.{levelsOf, allAllowed}
-use Rattle.analysis.specs.Judged.{holds, ruleRefusal}
+use Rattle.analysis.specs.Common.Columns.{prioritiesOf}
+use Rattle.analysis.specs.Common.Allowed.{allAllowed}
+use Rattle.analysis.specs.ByRule.{meets, ruleRefusal}
 use Rattle.choices.specs.declared.Walk.{Walk}
-use Rattle.choices.specs.declared.Arrival.the-variants.{Passing, End, Refused}
+use Rattle.choices.specs.declared.Arrival.the-variants.{Found, End, Refused}
 use Rattle.choices.specs.declared.Stepped.{Stepped}
 use Rattle.choices.specs.declared.Listing.{Listing}
 use Rattle.choices.specs.Choices.{chosen, passingOf}
@@ -24,12 +25,12 @@ startWalk = record { entries = replicate 8 0 }
 
 -- the refusal of a step: the table's, then 13, "the choice to go on after is not all zero, and has an entry outside 1 to that record's p or a nonzero entry past the count"
 unfoldable pub walkRefusal : Table → List ℕ → ℕ
-walkRefusal t start = orElse (tableRefusal t) (cond (allZero start || allAllowed (levelsOf t) start) 0 13)
+walkRefusal t start = orElse (tableRefusal t) (cond (allZero start || allAllowed (prioritiesOf t) start) 0 13)
 
 -- "After a passing choice the walk stands at that choice; at the end it comes back as it was"
 unfoldable pub arriveAt : Walk → List (List ℕ) → Stepped
 arriveAt w [] = record { walk = w; arrival = End }
-arriveAt w (choice ∷ later) = record { walk = record { entries = choice }; arrival = Passing }
+arriveAt w (choice ∷ later) = record { walk = record { entries = choice }; arrival = Found }
 
 -- a step through a list: to the first choice after the walk; "a refused step gives it back with all entries zero"
 unfoldable pub stepFrom : ℕ → List (List ℕ) → Walk → Stepped
@@ -74,16 +75,16 @@ listLeaves t out = leavesFrom (listRefusal t out) (passingOf t) out
 
 -- `step_by` and `list_by`: the same by a rule, with what a table is refused for under it
 unfoldable pub startRefusal : Rule → Table → List ℕ → ℕ
-startRefusal rule t start = orElse (ruleRefusal rule t) (cond (allZero start || allAllowed (levelsOf t) start) 0 13)
+startRefusal rule t start = orElse (ruleRefusal rule t) (cond (allZero start || allAllowed (prioritiesOf t) start) 0 13)
 
 unfoldable pub stepBy : Rule → Table → Walk → Stepped
-stepBy rule t w = stepFrom (startRefusal rule t (w .entries)) (chosen (holds rule) t) w
+stepBy rule t w = stepFrom (startRefusal rule t (w .entries)) (chosen (meets rule) t) w
 
 unfoldable pub refusalBy : Rule → Table → List ℕ → ℕ
-refusalBy rule t out = roomRefusal (ruleRefusal rule t) (chosen (holds rule) t) out
+refusalBy rule t out = roomRefusal (ruleRefusal rule t) (chosen (meets rule) t) out
 
 unfoldable pub listBy : Rule → Table → List ℕ → Listing
-listBy rule t out = listFrom (refusalBy rule t out) (chosen (holds rule) t)
+listBy rule t out = listFrom (refusalBy rule t out) (chosen (meets rule) t)
 
 unfoldable pub leavesBy : Rule → Table → List ℕ → List ℕ
-leavesBy rule t out = leavesFrom (refusalBy rule t out) (chosen (holds rule) t) out
+leavesBy rule t out = leavesFrom (refusalBy rule t out) (chosen (meets rule) t) out

@@ -3,9 +3,9 @@ use Prim.Native.Nat.{ℕ, zero, suc}
 use mathlib.Core.Bool.{Bool, cond}
 use mathlib.Core.List.{List, [], _∷_, _++_, map}
 use Rattle.sheet.specs.declared.Table.{Table}
-use Rattle.analysis.specs.Tasks.{Tasks, tasksOf}
-use Rattle.analysis.specs.Response.{passes}
-use Rattle.analysis.specs.Allowed.{levelsOf}
+use Rattle.analysis.specs.Common.Tasks.{Tasks, tasksOf}
+use Rattle.analysis.specs.Published.Response.{passes}
+use Rattle.analysis.specs.Common.Columns.{prioritiesOf}
 
 -- n numbers in a row
 unfoldable pub inRow : ℕ → ℕ → List ℕ
@@ -34,7 +34,7 @@ sift test (a ∷ l) = cond (test a) (a ∷ sift test l) (sift test l)
 
 -- the choices under which a table's tasks pass a test
 unfoldable pub chosen : (Tasks → Bool) → Table → List (List ℕ)
-chosen test t = sift (λ choice. test (tasksOf t (t .interval) choice)) (choicesOf (levelsOf t))
+chosen test t = sift (λ choice. test (tasksOf t (t .interval) choice)) (choicesOf (prioritiesOf t))
 
 -- the choices under which the table passes
 unfoldable pub passingOf : Table → List (List ℕ)

@@ -3,11 +3,11 @@ use Prim.Native.Nat.{ℕ, _<_}
 use mathlib.Core.Path.{_≡_}
 use mathlib.Core.Bool.{Bool, _&&_}
 use lib.Dec.{eqb}
+use Rattle.places.specs.Places.{someBelow}
 use Rattle.sheet.specs.declared.Table.{Table}
 use Rattle.sheet.specs.Layout.{recordAt}
-use Rattle.sheet.specs.Places.{someBelow}
-use Rattle.analysis.specs.Response.{late}
-use Rattle.analysis.specs.Answers.{ownTasks}
+use Rattle.analysis.specs.Published.Response.{late}
+use Rattle.analysis.specs.Common.Entries.{ownTasks}
 
 -- the record at a place is that of document 02's "lowest task", the one with priority 1
 abbrev pub Lowest : Table → ℕ → Type 0

@@ -8,8 +8,8 @@ use lib.ListN.{getD}
 use Rattle.sheet.specs.declared.Table.{Table}
 use Rattle.analysis.specs.declared.Bounds.{Bounds}
 use Rattle.analysis.specs.declared.Rule.{Rule}
-use Rattle.analysis.specs.Bounds.{boundsOf}
-use Rattle.choices.specs.declared.Found.{Found}
+use Rattle.analysis.specs.Bounds.Found.{boundsOf}
+use Rattle.choices.specs.declared.Later.{Later}
 use Rattle.choices.specs.Order.{allZero}
 
 -- bounds that are a table's under a rule, or none, whose count is 0
@@ -26,7 +26,7 @@ unfoldable pub firstFor : ℕ → ℕ
 firstFor p = cond (eqb p 0) 0 1
 
 -- a choice that is there, or the start where there is none
-unfoldable pub foundIn : List ℕ → List (List ℕ) → Found
+unfoldable pub foundIn : List ℕ → List (List ℕ) → Later
 foundIn start [] = record { «is_there» = false; choice = start }
 foundIn start (choice ∷ later) = record { «is_there» = true; choice = choice }
 
@@ -43,7 +43,7 @@ carried (p ∷ ps) (q ∷ qs) =
     (record { rose = ltb q p; entries = cond (ltb q p) (suc q) (firstFor p) ∷ carried ps qs .entries })
 
 -- the choice right after another, or the first one after eight zeros
-unfoldable pub nextOf : List ℕ → List ℕ → Found
+unfoldable pub nextOf : List ℕ → List ℕ → Later
 nextOf ps c =
     cond (allZero c) (record { «is_there» = true; choice = map firstFor ps })
     (record { «is_there» = carried ps c .rose; choice = carried ps c .entries })

@@ -1,4 +1,4 @@
-// Every choice of fault priorities that holds by a rule, as the passing ones do: the walk from choice to choice, and the whole list.
+// Every choice of fault priorities that meets a rule, as the passing ones do: the walk from choice to choice, and the whole list.
 ghost use mathlib.Core.Path.{_≡_};
 ghost use Rattle.choices.specs.Answers.{startWalk, stepBy, stepAnswer, listBy, leavesBy, listAnswer, listLeaves};
 use analysis::Rule;
@@ -15,7 +15,7 @@ pub struct Walk {
 
 // What a step comes to.
 pub enum Arrival {
-    Passing,
+    Found,
     End,
     Refused(u8),
 }
@@ -33,7 +33,7 @@ pub struct Listing {
 }
 
 // A choice found, or that there is none.
-pub struct Found {
+pub struct Later {
     pub is_there: bool,
     pub choice: [u8; 8],
 }
@@ -46,7 +46,7 @@ impl Walk {
         Walk { entries: [0u8; 8] }
     }
 
-    // The next choice that holds by a rule after the one that the walk stands at.
+    // The next choice that meets a rule after the one that the walk stands at.
     pub fn step_by(self, table: Table, rule: Rule) -> Stepped
         ensures { λ r. ⌜ r ≡ stepBy rule table self ⌝ }
     {
@@ -69,7 +69,7 @@ impl Walk {
             let choice = found.choice;
             return Stepped {
                 walk: Walk { entries: choice },
-                arrival: Arrival::Passing,
+                arrival: Arrival::Found,
             };
         }
         Stepped {
@@ -86,9 +86,10 @@ impl Walk {
     }
 }
 
-// Every choice that holds by a rule, 4 bytes each, at the start of the output.
+// Every choice that meets a rule, 4 bytes each, at the start of the output.
 pub fn list_by(table: Table, out: &mut [u8], rule: Rule) -> Listing
-    ensures { λ r. ⌜ (r ≡ listBy rule table (now (out .entry))) × (now (out .exit) ≡ leavesBy rule table (now (out .entry))) ⌝ }
+    ensures answer { λ r. ⌜ r ≡ listBy rule table (now (out .entry)) ⌝ }
+    ensures left { λ _. ⌜ now (out .exit) ≡ leavesBy rule table (now (out .entry)) ⌝ }
 {
     let refusal = analysis::judge_rule(table, rule);
     if refusal != 0 {
@@ -97,7 +98,7 @@ pub fn list_by(table: Table, out: &mut [u8], rule: Rule) -> Listing
             entries: 0,
         };
     }
-    if lowest::none_holds(table, rule) {
+    if lowest::none_meets(table, rule) {
         return Listing {
             refusal: 0,
             entries: 0,
@@ -119,7 +120,8 @@ pub fn list_by(table: Table, out: &mut [u8], rule: Rule) -> Listing
 
 // Every passing choice, 4 bytes each, at the start of the output.
 pub fn list(table: Table, out: &mut [u8]) -> Listing
-    ensures { λ r. ⌜ (r ≡ listAnswer table (now (out .entry))) × (now (out .exit) ≡ listLeaves table (now (out .entry))) ⌝ }
+    ensures answer { λ r. ⌜ r ≡ listAnswer table (now (out .entry)) ⌝ }
+    ensures left { λ _. ⌜ now (out .exit) ≡ listLeaves table (now (out .entry)) ⌝ }
 {
     list_by(table, out, Rule::Published)
 }

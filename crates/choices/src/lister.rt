@@ -5,7 +5,7 @@ ghost use Prim.Native.Nat.{_+_, _*_, _≤_};
 ghost use lib.Dec.{leb};
 ghost use lib.ListN.{length, drop};
 ghost use lib.Seq.{sets};
-ghost use Rattle.analysis.specs.Judged.{holds, ruleRefusal};
+ghost use Rattle.analysis.specs.ByRule.{meets, ruleRefusal};
 ghost use Rattle.choices.specs.Choices.{chosen};
 ghost use Rattle.choices.specs.Answers.{entryBytes, bytesOf};
 ghost use Rattle.choices.specs.Stepping.{Knows, factorial, small};
@@ -29,10 +29,11 @@ fn most(count: u8) -> usize
     choices
 }
 
-// Whether there are no more choices that hold by a rule than the room has entries.
+// Whether there are no more choices that meet a rule than the room has entries.
 pub fn fits(table: Table, bounds: Bounds, room: usize, rule: Rule) -> bool
-    requires { ⌜ (ruleRefusal rule table ≡ 0) × (Knows rule table bounds) ⌝ }
-    ensures { λ r. ⌜ r ≡ leb (length (chosen (holds rule) table)) room ⌝ }
+    requires judged { ⌜ ruleRefusal rule table ≡ 0 ⌝ }
+    requires known { ⌜ Knows rule table bounds ⌝ }
+    ensures { λ r. ⌜ r ≡ leb (length (chosen (meets rule) table)) room ⌝ }
 {
     if most(table.count) <= room {
         return true;
@@ -56,7 +57,8 @@ pub fn fits(table: Table, bounds: Bounds, room: usize, rule: Rule) -> bool
 
 // Puts one entry's four bytes, two records in each.
 fn put_entry(out: &mut [u8], at: usize, choice: [u8; 8])
-    requires { ⌜ (at + 4 ≤ length (now out)) × small choice ⌝ }
+    requires room { ⌜ at + 4 ≤ length (now out) ⌝ }
+    requires narrow { ⌜ small choice ⌝ }
     ensures { λ _. ⌜ now (out .exit) ≡ sets (now (out .entry)) at (entryBytes choice) ⌝ }
 {
     out[at] = choice[0] * 16 + choice[1];
@@ -65,10 +67,13 @@ fn put_entry(out: &mut [u8], at: usize, choice: [u8; 8])
     out[at + 3] = choice[6] * 16 + choice[7];
 }
 
-// Puts every choice that holds by a rule, and counts them.
+// Puts every choice that meets a rule, and counts them.
 pub fn fill(table: Table, bounds: Bounds, out: &mut [u8], rule: Rule) -> usize
-    requires { ⌜ (ruleRefusal rule table ≡ 0) × (Knows rule table bounds) × (4 * length (chosen (holds rule) table) ≤ length (now out)) ⌝ }
-    ensures { λ r. ⌜ (r ≡ length (chosen (holds rule) table)) × (now (out .exit) ≡ bytesOf (chosen (holds rule) table) ++ drop (4 * length (chosen (holds rule) table)) (now (out .entry))) ⌝ }
+    requires judged { ⌜ ruleRefusal rule table ≡ 0 ⌝ }
+    requires known { ⌜ Knows rule table bounds ⌝ }
+    requires room { ⌜ 4 * length (chosen (meets rule) table) ≤ length (now out) ⌝ }
+    ensures answer { λ r. ⌜ r ≡ length (chosen (meets rule) table) ⌝ }
+    ensures left { λ _. ⌜ now (out .exit) ≡ bytesOf (chosen (meets rule) table) ++ drop (4 * length (chosen (meets rule) table)) (now (out .entry)) ⌝ }
 {
     let mut walk = [0u8; 8];
     let mut entries: usize = 0;

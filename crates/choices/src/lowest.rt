@@ -4,7 +4,7 @@ ghost use mathlib.Core.Path.{_≡_};
 ghost use mathlib.Core.Bool.{true};
 ghost use mathlib.Core.List.{[]};
 ghost use Rattle.sheet.specs.Rules.{tableRefusal};
-ghost use Rattle.analysis.specs.Judged.{holds, ruleRefusal};
+ghost use Rattle.analysis.specs.ByRule.{meets, ruleRefusal};
 ghost use Rattle.choices.specs.Choices.{chosen};
 ghost use Rattle.choices.specs.Lowest.{Lowest, lowestLate};
 use analysis::Outcome;
@@ -42,10 +42,10 @@ pub fn is_late(table: Table) -> bool
     }
 }
 
-// Whether the lowest task, or some record's own backup, tells that no choice holds by a rule: where its fault priority is its priority, both rules ask the same of a task.
-pub fn none_holds(table: Table, rule: Rule) -> bool
+// Whether the lowest task, or some record's own backup, tells that no choice meets a rule: where its fault priority is its priority, both rules ask the same of a task.
+pub fn none_meets(table: Table, rule: Rule) -> bool
     requires { ⌜ ruleRefusal rule table ≡ 0 ⌝ }
-    ensures { λ r. ⌜ (r ≡ true → chosen (holds rule) table ≡ []) ⌝ }
+    ensures { λ r. ⌜ (r ≡ true → chosen (meets rule) table ≡ []) ⌝ }
 {
     if is_late(table) {
         return true;

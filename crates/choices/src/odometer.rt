@@ -1,16 +1,17 @@
-// From one choice to the next: whether a walk may go on after a start, the choice right after another, and the next one that holds by a rule.
+// From one choice to the next: whether a walk may go on after a start, the choice right after another, and the next one that meets a rule.
 ghost use mathlib.Core.Path.{_≡_};
 ghost use mathlib.Core.Bool.{true, _||_};
 ghost use Prim.Native.Nat.{_≤_};
 ghost use mathlib.Core.List.{[], map};
-ghost use Rattle.analysis.specs.Tasks.{tasksOf};
-ghost use Rattle.analysis.specs.Allowed.{levelsOf, allAllowed};
-ghost use Rattle.analysis.specs.Judged.{holds, ruleRefusal};
+ghost use Rattle.analysis.specs.Common.Tasks.{tasksOf};
+ghost use Rattle.analysis.specs.Common.Columns.{prioritiesOf};
+ghost use Rattle.analysis.specs.Common.Allowed.{allAllowed};
+ghost use Rattle.analysis.specs.ByRule.{meets, ruleRefusal};
 ghost use Rattle.choices.specs.Choices.{chosen};
 ghost use Rattle.choices.specs.Order.{allZero, afterOf};
 ghost use Rattle.choices.specs.Answers.{startRefusal};
 ghost use Rattle.choices.specs.Stepping.{Knows, firstFor, foundIn, nextOf};
-use crate::Found;
+use crate::Later;
 use analysis::Bounds;
 use analysis::Rule;
 use sheet::Table;
@@ -19,22 +20,22 @@ use sheet::Table;
 const FEW: u8 = 2;
 
 // The priorities of a table's records, 0 past the count.
-fn levels_of(table: Table) -> [u8; 8]
+fn priorities_of(table: Table) -> [u8; 8]
     requires { ⌜ table .count ≤ 8 ⌝ }
-    ensures { λ r. ⌜ r ≡ levelsOf table ⌝ }
+    ensures { λ r. ⌜ r ≡ prioritiesOf table ⌝ }
 {
     let count = table.count as usize;
     let records = table.records;
-    let mut levels = [0u8; 8];
+    let mut priorities = [0u8; 8];
     let mut place: usize = 0;
     while place < count {
-        levels[place] = records[place].priority;
+        priorities[place] = records[place].priority;
         place += 1;
     }
-    levels
+    priorities
 }
 
-// Whether every entry is zero.
+// Whether no fault priority stands in it.
 fn all_zero(choice: [u8; 8]) -> bool
     ensures { λ r. ⌜ r ≡ allZero choice ⌝ }
 {
@@ -58,33 +59,33 @@ pub fn judge_start(table: Table, start: [u8; 8], rule: Rule) -> u8
     analysis::judge_choice_by(table, start, rule)
 }
 
-// The first entry allowed at a place of the level.
-fn first_entry(level: u8) -> u8
-    ensures { λ r. ⌜ r ≡ firstFor level ⌝ }
+// The first fault priority allowed for a record of the priority, 0 past the count.
+fn first_fault(priority: u8) -> u8
+    ensures { λ r. ⌜ r ≡ firstFor priority ⌝ }
 {
-    if level == 0 { 0 } else { 1 }
+    if priority == 0 { 0 } else { 1 }
 }
 
 // The first choice.
-fn first_choice(levels: [u8; 8]) -> [u8; 8]
-    ensures { λ r. ⌜ r ≡ map firstFor levels ⌝ }
+fn first_choice(priorities: [u8; 8]) -> [u8; 8]
+    ensures { λ r. ⌜ r ≡ map firstFor priorities ⌝ }
 {
     let mut choice = [0u8; 8];
     let mut place: usize = 0;
     while place < 8 {
-        choice[place] = first_entry(levels[place]);
+        choice[place] = first_fault(priorities[place]);
         place += 1;
     }
     choice
 }
 
 // The choice right after another.
-fn next(levels: [u8; 8], choice: [u8; 8]) -> Found
-    ensures { λ r. ⌜ r ≡ nextOf levels choice ⌝ }
+fn next(priorities: [u8; 8], choice: [u8; 8]) -> Later
+    ensures { λ r. ⌜ r ≡ nextOf priorities choice ⌝ }
 {
     if all_zero(choice) {
-        let first = first_choice(levels);
-        return Found {
+        let first = first_choice(priorities);
+        return Later {
             is_there: true,
             choice: first,
         };
@@ -93,16 +94,16 @@ fn next(levels: [u8; 8], choice: [u8; 8]) -> Found
     let mut place: usize = 8;
     while 0 < place {
         place -= 1;
-        if entries[place] < levels[place] {
+        if entries[place] < priorities[place] {
             entries[place] += 1;
-            return Found {
+            return Later {
                 is_there: true,
                 choice: entries,
             };
         }
-        entries[place] = first_entry(levels[place]);
+        entries[place] = first_fault(priorities[place]);
     }
-    Found {
+    Later {
         is_there: false,
         choice: entries,
     }
@@ -121,13 +122,15 @@ pub fn no_bounds() -> Bounds
     }
 }
 
-// Whether a choice holds by a rule: by the bounds where they are known, else by its times.
-fn holds(table: Table, bounds: Bounds, choice: [u8; 8], rule: Rule) -> bool
-    requires { ⌜ (ruleRefusal rule table ≡ 0) × (Knows rule table bounds) × (allAllowed (levelsOf table) choice ≡ true) ⌝ }
-    ensures { λ r. ⌜ r ≡ holds rule (tasksOf table (table .interval) choice) ⌝ }
+// Whether a choice meets a rule: by the bounds where they are known, else by its times.
+fn meets(table: Table, bounds: Bounds, choice: [u8; 8], rule: Rule) -> bool
+    requires judged { ⌜ ruleRefusal rule table ≡ 0 ⌝ }
+    requires known { ⌜ Knows rule table bounds ⌝ }
+    requires allowed { ⌜ allAllowed (prioritiesOf table) choice ≡ true ⌝ }
+    ensures { λ r. ⌜ r ≡ meets rule (tasksOf table (table .interval) choice) ⌝ }
 {
     if bounds.count != 0 {
-        return analysis::holds_within(bounds, choice, rule).yes;
+        return analysis::meets_within(bounds, choice, rule).yes;
     }
     analysis::assess_choice_by(table, choice, rule).passes
 }
@@ -137,10 +140,10 @@ fn one_less(left: u8) -> u8 {
     if left == 0 { 0 } else { left - 1 }
 }
 
-// Whether no choice holds because of some record's own backup, asked where no bounds are known and no choice is left that is to be looked at without.
+// Whether no choice meets because of some record's own backup, asked where no bounds are known and no choice is left that is to be looked at without.
 fn ends(table: Table, bounds: Bounds, left: u8, rule: Rule) -> bool
     requires { ⌜ ruleRefusal rule table ≡ 0 ⌝ }
-    ensures { λ r. ⌜ (r ≡ true → chosen (holds rule) table ≡ []) ⌝ }
+    ensures { λ r. ⌜ (r ≡ true → chosen (meets rule) table ≡ []) ⌝ }
 {
     if left == 0 {
         if bounds.count == 0 {
@@ -163,29 +166,31 @@ fn sought(table: Table, bounds: Bounds, left: u8, rule: Rule) -> Bounds
     bounds
 }
 
-// The first choice after a start that holds by a rule. Where no bounds are known a few choices are looked at by their times first, so that one found at once does not pay for bounds.
-pub fn advance(table: Table, bounds: Bounds, start: [u8; 8], rule: Rule) -> Found
-    requires { ⌜ (ruleRefusal rule table ≡ 0) × ((allZero start || allAllowed (levelsOf table) start) ≡ true) × (Knows rule table bounds) ⌝ }
-    ensures { λ r. ⌜ r ≡ foundIn start (afterOf start (chosen (holds rule) table)) ⌝ }
+// The first choice after a start that meets a rule. Where no bounds are known a few choices are looked at by their times first, so that one found at once does not pay for bounds.
+pub fn advance(table: Table, bounds: Bounds, start: [u8; 8], rule: Rule) -> Later
+    requires judged { ⌜ ruleRefusal rule table ≡ 0 ⌝ }
+    requires allowed { ⌜ (allZero start || allAllowed (prioritiesOf table) start) ≡ true ⌝ }
+    requires known { ⌜ Knows rule table bounds ⌝ }
+    ensures { λ r. ⌜ r ≡ foundIn start (afterOf start (chosen (meets rule) table)) ⌝ }
 {
-    let levels = levels_of(table);
+    let priorities = priorities_of(table);
     let mut known = bounds;
     let mut left: u8 = FEW;
     let mut choice = start;
     loop {
-        let found = next(levels, choice);
+        let found = next(priorities, choice);
         if found.is_there {
             let later = found.choice;
             choice = later;
-            if holds(table, known, choice, rule) {
-                return Found {
+            if meets(table, known, choice, rule) {
+                return Later {
                     is_there: true,
                     choice,
                 };
             }
             left = one_less(left);
             if ends(table, known, left, rule) {
-                return Found {
+                return Later {
                     is_there: false,
                     choice: start,
                 };
@@ -193,7 +198,7 @@ pub fn advance(table: Table, bounds: Bounds, start: [u8; 8], rule: Rule) -> Foun
             let better = sought(table, known, left, rule);
             known = better;
         } else {
-            return Found {
+            return Later {
                 is_there: false,
                 choice: start,
             };

@@ -1,18 +1,17 @@
 // `judge`: what document 01 says of a sheet, its times and then its choices.
 use crate::passing;
-use crate::refusals;
 use crate::responses;
+use crate::taking;
 use analysis::Rule;
 use intake::explanation;
-use intake::sheets;
 use sheet::Table;
-use streams::standing;
+use streams::endings;
 use streams::words;
 use streams::words::Asked;
 
 // Says where a passing sheet's own choice is not assured. Of a shared processor nothing is assured, and nothing is said.
 fn warn(table: Table) {
-    let assured = analysis::assess_by(table, Rule::Low);
+    let assured = analysis::assess_by(table, Rule::Assured);
     if (assured.refusal == 0) & !assured.passes {
         explanation::say(
             b"desk: the sheet passes by the published equations, but its own fault priorities are not assured: a job may still miss (./desk assured)\n",
@@ -29,23 +28,19 @@ fn answer(table: Table, is_explained: bool) -> u8 {
             if is_explained & assessment.passes {
                 warn(table);
             }
-            return standing::of(assessment.passes);
+            return endings::of(assessment.passes);
         }
     }
-    standing::failed()
+    endings::failed()
 }
 
 // Judges the sheet that an argument names.
 fn judge(place: usize, is_explained: bool) -> u8 {
-    let given = sheets::read(place);
-    if !given.is_read {
-        return standing::TROUBLE;
+    let taken = taking::table(place, is_explained);
+    if !taken.is_good {
+        return taken.ending;
     }
-    let reading = sheets::reading(given);
-    if reading.refusal != 0 {
-        return refusals::print_of(given, reading.refusal, is_explained);
-    }
-    let table = reading.table;
+    let table = taken.table;
     answer(table, is_explained)
 }
 

@@ -5,3 +5,4 @@ pub mod output;
 pub mod passing;
 pub mod refusals;
 mod responses;
+pub mod taking;

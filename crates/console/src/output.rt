@@ -1,8 +1,8 @@
 // Lines gathered in a buffer and written to standard output.
 use libc::STDOUT_FILENO;
 use report::Line;
+use streams::endings;
 use streams::parts;
-use streams::standing;
 
 // Where the next line goes, or that the lines before it could not be written.
 pub enum Kept {
@@ -49,5 +49,5 @@ fn is_written(line: Line) -> bool {
 
 // Writes a line that is the whole answer.
 pub fn line(line: Line, ending: u8) -> u8 {
-    standing::ended(is_written(line), ending)
+    endings::ended(is_written(line), ending)
 }

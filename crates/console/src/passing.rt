@@ -42,7 +42,7 @@ pub fn print_list(count: u8, list: &[u8], entries: usize) -> bool {
     let mut end: usize = 0;
     let mut number: usize = 0;
     while number < entries {
-        let line = report::pass_line(count, choice(list, number));
+        let line = report::choice_line(count, choice(list, number));
         match output::keep(&mut buffer, end, line) {
             Kept::Next(next) => end = next,
             Kept::Lost => return false,

@@ -5,23 +5,23 @@ use intake::sheets;
 use intake::sheets::Given;
 use report::Name;
 use sheet::Table;
-use streams::standing;
+use streams::endings;
 
 // Prints a refusal's line.
 fn line(refusal: u8) -> u8 {
     output::line(
         report::named_line(Name::Refused, refusal as u64),
-        standing::TROUBLE,
+        endings::TROUBLE,
     )
 }
 
 // Prints a refusal that is no record's.
 pub fn print(refusal: u8, is_explained: bool) -> u8 {
-    let standing = line(refusal);
+    let ending = line(refusal);
     if is_explained {
         explanation::print(refusal);
     }
-    standing
+    ending
 }
 
 // Prints a sheet's refusal.
@@ -31,28 +31,28 @@ pub fn print_of(given: Given, refusal: u8, is_explained: bool) -> u8 {
 
 // Prints the refusal of a table.
 pub fn print_of_table(table: Table, refusal: u8, is_explained: bool) -> u8 {
-    let standing = line(refusal);
+    let ending = line(refusal);
     if is_explained {
         explanation::print_of(b"", table, refusal);
     }
-    standing
+    ending
 }
 
 // Prints the refusal of a text at a line and a column.
 pub fn print_at(refusal: u8, line: u64, column: u64, is_explained: bool) -> u8 {
     let refused = report::refused_at_line(refusal, line, column);
-    let standing = output::line(refused, standing::TROUBLE);
+    let ending = output::line(refused, endings::TROUBLE);
     if is_explained {
         explanation::print_at(line, column, refusal);
     }
-    standing
+    ending
 }
 
 // Prints the refusal of one of two sheets.
 pub fn print_called(called: &[u8], given: Given, refusal: u8, is_explained: bool) -> u8 {
-    let standing = line(refusal);
+    let ending = line(refusal);
     if is_explained {
         explanation::print_of(called, sheets::unjudged(given), refusal);
     }
-    standing
+    ending
 }

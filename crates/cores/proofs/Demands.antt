@@ -1,6 +1,6 @@
 -- Ask 13 in its own words, about the definitions that `place` promises, for any tasks and any number of cores. Assumes nothing.
 use Prim.Native.Nat.{ℕ, zero, suc, _+_, _-_, _≤_, _<_}
-use mathlib.Core.Path.{_≡_, refl, sym, ap, subst, _∙_}
+use mathlib.Core.Path.{_≡_, refl, sym, ap, _∙_}
 use mathlib.Core.Bool.{Bool, true, false, _||_, true≢false}
 use mathlib.Core.Logic.{_↔_, ⊎-elim}
 use native.Mathlib.Nat.{not-suc-le-zero, eq-or-lt-of-le, le-of-suc-le-suc}
@@ -9,35 +9,18 @@ use native.Mathlib.Omega.{arith}
 use borrow.Author.Tests.{eq-eqb, ne-eqb, eqb-true}
 use lib.Dec.{eqb}
 use lib.ListN.{getD}
+use Rattle.places.specs.Places.{someBelow}
+use Rattle.places.proofs.Search.{Fails, first-exactly, none-exactly}
 use Rattle.sheet.specs.declared.Table.{Table}
-use Rattle.sheet.specs.Places.{someBelow}
 use Rattle.sheet.specs.Rules.{tableRefusal}
-use Rattle.analysis.specs.Tasks.{Tasks}
-use Rattle.analysis.specs.Search.{firstFrom}
-use Rattle.analysis.specs.Response.{passes}
-use Rattle.analysis.specs.Answers.{ownTasks}
-use Rattle.analysis.proofs.Climbing.{Fails, Says, first-says, first-found, first-none}
-use Rattle.cores.specs.Ranks.{picked, coreTasks, tasksAt}
+use Rattle.analysis.specs.Common.Tasks.{Tasks}
+use Rattle.analysis.specs.Published.Response.{passes}
+use Rattle.analysis.specs.Common.Entries.{ownTasks}
+use Rattle.cores.specs.Renumbered.{picked, coreTasks, tasksAt}
 use Rattle.cores.specs.FirstFit.{joins, stillPass, lowestCore, coresBefore, coreOf, fitsNone}
-use Rattle.cores.proofs.Ranking.{tasks-agree, tasks-skip, ranks-within, ranks-order, ranks-apart, ranks-onto}
-use Rattle.cores.proofs.Standing.{Fitted}
+use Rattle.cores.proofs.Renumbering.{tasks-agree, tasks-skip, priorities-within, priorities-order, priorities-apart, priorities-onto}
+use Rattle.cores.proofs.FittedSoFar.{Fitted}
 use Rattle.cores.proofs.Trying.{distinct}
-
--- the first number from 1 on that passes a test
-first-exactly : (test : ℕ → Bool) (n r : ℕ) → 1 ≤ r → (firstFrom test 1 n ≡ r) ↔ ((r ≤ n) × (test r ≡ true) × Fails test 1 r)
-first-exactly test n r some = (λ e. go (firstFrom test 1 n) (first-says test n 1) e, λ h. first-found test n 1 r some (omega arith) (h .2) (h .1))
-  where
-    go : (found : ℕ) → Says test 1 n found → found ≡ r → (r ≤ n) × (test r ≡ true) × Fails test 1 r
-    go found (Says.none fails) e = absurd (omega arith)
-    go found (Says.found low high fails holds) e = (omega arith, subst (λ (k : ℕ). test k ≡ true) e holds, subst (Fails test 1) e fails)
-
--- or that there is none
-none-exactly : (test : ℕ → Bool) (n : ℕ) → (firstFrom test 1 n ≡ 0) ↔ ((k : ℕ) → 1 ≤ k → k ≤ n → test k ≡ false)
-none-exactly test n = (λ e. go (firstFrom test 1 n) (first-says test n 1) e, λ h. first-none test n 1 (λ k low high. h k low (omega arith)))
-  where
-    go : (found : ℕ) → Says test 1 n found → found ≡ 0 → (k : ℕ) → 1 ≤ k → k ≤ n → test k ≡ false
-    go found (Says.none fails) e k low high = fails k low (omega arith)
-    go found (Says.found low high fails holds) e k from to = absurd (omega arith)
 
 module _ (s : Tasks) (number : ℕ) where
   -- whether a record is on the core, before a place is taken, and in the end
@@ -116,20 +99,20 @@ module _ (s : Tasks) (number : ℕ) where
   pub core-passes : (core : ℕ) → 1 ≤ core → passes (coreTasks s (isOn core) (s .count)) ≡ true
   core-passes core some = ap passes (tasks-agree s _ _ (s .count) (λ k low. ap (λ (c : ℕ). eqb c core) (sym (core-kept (s .count) k low)))) ∙ standing-passes (s .count) core some
 
--- "with priorities ranked from 1 in their old order within the core": ranks are 1 to the number of records, each once, in the old order
-pub record RankedInOrder (s : Tasks) (test : ℕ → Bool) (n : ℕ) : Type 0 where
+-- "with priorities ranked from 1 in their old order within the core": the priorities on a core are 1 to the number of records, each once, in the old order
+pub record RenumberedInOrder (s : Tasks) (test : ℕ → Bool) (n : ℕ) : Type 0 where
   pub within : (j : ℕ) → j < coreTasks s test n .count → (1 ≤ coreTasks s test n .at j .priority) × (coreTasks s test n .at j .priority ≤ coreTasks s test n .count)
   pub once : (i j : ℕ) → i < coreTasks s test n .count → j < coreTasks s test n .count → coreTasks s test n .at i .priority ≡ coreTasks s test n .at j .priority → i ≡ j
-  pub each : (rank : ℕ) → 1 ≤ rank → rank ≤ coreTasks s test n .count → (j : ℕ) × (j < coreTasks s test n .count) × (coreTasks s test n .at j .priority ≡ rank)
+  pub each : (priority : ℕ) → 1 ≤ priority → priority ≤ coreTasks s test n .count → (j : ℕ) × (j < coreTasks s test n .count) × (coreTasks s test n .at j .priority ≡ priority)
   pub order : (i j : ℕ) → i < coreTasks s test n .count → j < coreTasks s test n .count
       → s .at (getD (picked test n) i 0) .priority < s .at (getD (picked test n) j 0) .priority → coreTasks s test n .at i .priority < coreTasks s test n .at j .priority
 
-pub ranks-in-order : (t : Table) → tableRefusal t ≡ 0 → (test : ℕ → Bool) (n : ℕ) → n ≤ t .count → RankedInOrder (ownTasks t) test n
-ranks-in-order t good test n few =
+pub renumbered-in-order : (t : Table) → tableRefusal t ≡ 0 → (test : ℕ → Bool) (n : ℕ) → n ≤ t .count → RenumberedInOrder (ownTasks t) test n
+renumbered-in-order t good test n few =
     let apart = distinct t good n few in
     record {
-      within = ranks-within (ownTasks t) test n apart;
-      once = ranks-apart (ownTasks t) test n apart;
-      each = ranks-onto (ownTasks t) test n apart;
-      order = ranks-order (ownTasks t) test n apart;
+      within = priorities-within (ownTasks t) test n apart;
+      once = priorities-apart (ownTasks t) test n apart;
+      each = priorities-onto (ownTasks t) test n apart;
+      order = priorities-order (ownTasks t) test n apart;
     }

@@ -1,53 +1,28 @@
 -- Fewer tasks are done no later: where some tasks of another, in its order and with each q equal to p in both, are all that there is, they pass if the others do. Assumes nothing.
-use Prim.Native.Nat.{ℕ, zero, suc, _+_, _-_, _*_, _≤_, _<_}
-use mathlib.Core.Path.{_≡_, refl, sym, ap, ap₂, subst, _∙_}
+use Prim.Native.Nat.{ℕ, _+_, _-_, _*_, _≤_, _<_}
+use mathlib.Core.Path.{_≡_, refl, sym, ap₂, subst, _∙_}
 use mathlib.Core.Bool.{Bool, true, false, cond, _&&_, _||_}
-use mathlib.Core.Logic.{⊎-elim}
-use native.Mathlib.Nat.{le-refl, mul-le-mul-left, eq-or-lt-of-le, le-of-suc-le-suc}
+use native.Mathlib.Nat.{mul-le-mul-left}
 use native.Mathlib.Decide.{ℕ-discrete, decLt}
 use native.Mathlib.Omega.{arith}
 use borrow.Author.Tests.{ne-eqb, eqb-false, le-ltb, ltb-false}
 use lib.Dec.{eqb, ltb}
-use Rattle.sheet.proofs.Editions.{neither}
-use Rattle.sheet.proofs.Tells.{Tells, holds, fails, ltb-tells, leb-tells, eqb-tells, not-tells, and-tells}
-use Rattle.analysis.specs.Rounding.{up}
-use Rattle.analysis.specs.Totals.{sumBelow, mostBelow}
-use Rattle.analysis.specs.Tasks.{Tasks}
-use Rattle.analysis.specs.Backups.{others, everyone, backupOf, largestBackup, backupElsewhere, backupFromFault}
-use Rattle.analysis.specs.Equations.{supplierOf, isBetween, struckElsewhere, struckItself}
-use Rattle.analysis.specs.Response.{timeElsewhere, timeItself, responseWithin, responseTime, isLate, late, passes}
+use Rattle.places.specs.Places.{sumBelow}
+use Rattle.places.proofs.Tells.{neither, Tells, holds, fails, ltb-tells, leb-tells, eqb-tells, not-tells, and-tells}
+use Rattle.places.proofs.Agree.{sum-agree}
+use Rattle.places.proofs.Onto.{Rising}
+use Rattle.places.proofs.Summed.{sum-along, sum-none}
+use Rattle.places.proofs.Largest.{most-along}
+use Rattle.analysis.specs.Common.Rounding.{up}
+use Rattle.analysis.specs.Common.Tasks.{Tasks}
+use Rattle.analysis.specs.Common.Backups.{others, everyone, backupOf, largestBackup, backupElsewhere, backupFromFault}
+use Rattle.analysis.specs.Published.Equations.{askedElsewhere, askedItself, isBetween, struckElsewhere, struckItself}
+use Rattle.analysis.specs.Common.Supplier.{supplierOf}
+use Rattle.analysis.specs.Published.Response.{timeElsewhere, timeItself, responseWithin, responseTime, late, passes}
+use Rattle.analysis.specs.Common.Entries.{isLate}
 use Rattle.analysis.proofs.Demands.{passes-exactly}
-use Rattle.analysis.proofs.Easier.{NoLater, least-easier}
-use Rattle.analysis.proofs.Totalled.{most-part, sum-agree}
-use Rattle.analysis.proofs.Verdicts.{late-elsewhere, late-itself, on-time}
-
--- places that rise, each below n
-pub record Rising (m n : ℕ) (place : ℕ → ℕ) : Type 0 where
-  pub within : (j : ℕ) → j < m → place j < n
-  pub rises : (i j : ℕ) → i < j → j < m → place i < place j
-
--- a sum over more places is no smaller
-sum-grows : (f : ℕ → ℕ) (m n : ℕ) → m ≤ n → sumBelow f m ≤ sumBelow f n
-unfolding sumBelow
-sum-grows f m zero h =
-    let none : m ≡ 0 = omega arith in
-    rw none (le-refl 0)
-sum-grows f m (suc n) h = ⊎-elim (λ e. rw e (le-refl (sumBelow f (suc n)))) (λ lt. omega (arith, sum-grows f m n (le-of-suc-le-suc lt))) (eq-or-lt-of-le h)
-
--- what is summed along places that rise is within the whole sum
-sum-along : (g f place : ℕ → ℕ) (m n : ℕ) → Rising m n place → ((j : ℕ) → j < m → g j ≤ f (place j)) → sumBelow g m ≤ sumBelow f n
-unfolding sumBelow
-sum-along g f place zero n r each = omega arith
-sum-along g f place (suc m) n r each =
-    let before = sum-along g f place m (place m) (record { within = λ j h. r .rises j m h (omega arith); rises = λ i j lt h. r .rises i j lt (omega arith) }) (λ j h. each j (omega arith)) in
-    omega (arith, before, each m (omega arith), sum-grows f (suc (place m)) n (r .within m (omega arith)))
-
--- and so is the largest
-most-along : (g f place : ℕ → ℕ) (m n : ℕ) → ((j : ℕ) → j < m → place j < n) → ((j : ℕ) → j < m → g j ≤ f (place j)) → mostBelow g m ≤ mostBelow f n
-unfolding mostBelow
-most-along g f place zero n below each = omega arith
-most-along g f place (suc m) n below each =
-    omega (arith, most-along g f place m n (λ j h. below j (omega arith)) (λ j h. each j (omega arith)), each m (omega arith), most-part f n (place m) (below m (omega arith)))
+use Rattle.analysis.proofs.Laws.Common.Easier.{NoLater, least-easier}
+use Rattle.analysis.proofs.Laws.Published.Larger.{late-elsewhere, late-itself, on-time}
 
 -- the tasks of one are those of the other at some places, in its order of records and of priorities, and each q is equal to p in both
 pub record Fewer (s t : Tasks) (place : ℕ → ℕ) : Type 0 where
@@ -63,12 +38,6 @@ pub record Fewer (s t : Tasks) (place : ℕ → ℕ) : Type 0 where
   pub not-below : (i j : ℕ) → i < s .count → j < s .count → s .at i .priority ≤ s .at j .priority → t .at (place i) .priority ≤ t .at (place j) .priority
   pub raised : (j : ℕ) → j < s .count → s .fault j ≡ s .at j .priority
   pub raised-there : (j : ℕ) → j < s .count → t .fault (place j) ≡ t .at (place j) .priority
-
--- a sum of nothing
-sum-zero : (n : ℕ) → sumBelow (λ k. 0) n ≡ 0
-unfolding sumBelow
-sum-zero zero = refl
-sum-zero (suc n) = ap (λ (k : ℕ). k + 0) (sum-zero n)
 
 -- where a test that holds has the other hold, what it picks is no larger
 picked-less : {P Q : Type 0} {a b : Bool} (x y : ℕ) → Tells P a → Tells Q b → (P → Q) → x ≡ y → cond a x 0 ≤ cond b y 0
@@ -96,9 +65,9 @@ module _ (s t : Tasks) (place : ℕ → ℕ) (fewer : Fewer s t place) where
         (λ j h. picked-less _ _ (ltb-tells _ _) (ltb-tells _ _) (fewer .above i j low h) (ap₂ (λ (p c : ℕ). up L p * c) (fewer .period j h) (fewer .cost j h)))
 
     -- no task lies between a q and a p that are equal
-    between-none : (L : ℕ) → sumBelow (λ k. cond (isBetween s i k) ((1 + up L (s .at k .period)) * s .at k .cost) 0) (s .count) ≡ 0
+    between-none : (L : ℕ) → sumBelow (λ k. cond (isBetween s i (s .fault i) k) ((1 + up L (s .at k .period)) * s .at k .cost) 0) (s .count) ≡ 0
     unfolding isBetween
-    between-none L = sum-agree (s .count) (λ k h. go (s .at k .priority) _) ∙ sum-zero (s .count)
+    between-none L = sum-agree (s .count) (λ k h. go (s .at k .priority) _) ∙ sum-none (λ k. 0) (s .count) (λ k h. refl)
       where
         go : (p x : ℕ) → cond (ltb (s .fault i) p && ltb p (s .at i .priority)) x 0 ≡ 0
         go p x = pick (ltb (s .fault i) p) (ltb p (s .at i .priority)) (ltb-tells (s .fault i) p) (ltb-tells p (s .at i .priority))
@@ -129,13 +98,13 @@ module _ (s t : Tasks) (place : ℕ → ℕ) (fewer : Fewer s t place) where
 
     -- and no length is asked more of
     elsewhere-less : (L : ℕ) → struckElsewhere s i L ≤ struckElsewhere t (place i) L
-    unfolding struckElsewhere
+    unfolding askedElsewhere struckElsewhere
     elsewhere-less L =
         let faults = subst (λ (e : ℕ). up L (s .interval) * backupElsewhere s i ≤ up L e * backupElsewhere t (place i)) (fewer .interval) (mul-le-mul-left (up L (s .interval)) elsewhere-backup) in
         omega (arith, fewer .cost i low, above-less L, faults, supplied L)
 
     itself-less : (L : ℕ) → struckItself s i L ≤ struckItself t (place i) L
-    unfolding struckItself
+    unfolding askedItself isBetween struckItself
     itself-less L =
         let faults = subst (λ (e : ℕ). (up L (s .interval) - 1) * backupFromFault s i ≤ (up L e - 1) * backupFromFault t (place i)) (fewer .interval) (mul-le-mul-left (up L (s .interval) - 1) fault-backup) in
         omega (arith, fewer .cost i low, fewer .backup i low, above-less L, between-none L, faults, supplied L)

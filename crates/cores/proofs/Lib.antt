@@ -1,9 +1,9 @@
 -- Laws that belong to no one function, lowest first.
 pub mod Picking
-pub mod Ranking
+pub mod Renumbering
 pub mod Fewer
 pub mod Trying
-pub mod Standing
+pub mod FittedSoFar
 pub mod Answered
 pub mod Refused
 pub mod Demands

@@ -1,4 +1,4 @@
--- With ask 12: no job misses on any core, each core's tasks written as a sheet of their own and replayed by a log of their own. Assumes nothing.
+-- With request 12: no job misses on any core, each core's tasks written as a sheet of their own and replayed by a log of their own. Assumes nothing.
 use Prim.Native.Nat.{ℕ, _≤_, _<_}
 use mathlib.Core.Path.{_≡_, refl, sym, ap, subst, _∙_}
 use mathlib.Core.Bool.{Bool, true}
@@ -6,6 +6,7 @@ use mathlib.Core.List.{List}
 use native.Mathlib.Decide.{decLt}
 use native.Mathlib.Omega.{arith}
 use lib.ListN.{getD, replicate}
+use Rattle.places.proofs.Filled.{filled-past, alike-at}
 use Rattle.sheet.specs.declared.Record.{Record}
 use Rattle.sheet.specs.declared.Table.{Table}
 use Rattle.sheet.specs.Layout.{noRecord, recordAt, room, tableOf, cleared, sheetOf}
@@ -14,14 +15,13 @@ use Rattle.sheet.proofs.Agree.{room-at}
 use Rattle.sheet.proofs.Cases.{good-table}
 use Rattle.sheet.proofs.Demands.{table-good}
 use Rattle.sheet.proofs.Return.{Wide, table-kept}
-use Rattle.analysis.specs.Tasks.{Tasks}
-use Rattle.analysis.specs.Response.{passes}
-use Rattle.analysis.specs.Answers.{ownTasks}
-use Rattle.analysis.proofs.Choice.{filled-past, alike-at}
-use Rattle.replay.specs.Answers.{replayRefusal, replayAnswer}
+use Rattle.analysis.specs.Common.Tasks.{Tasks}
+use Rattle.analysis.specs.Published.Response.{passes}
+use Rattle.analysis.specs.Common.Entries.{ownTasks}
+use Rattle.replay.specs.Logs.Answers.{replayRefusal, replayAnswer}
 use Rattle.replay.proofs.Demands.{sheet-passed}
 use Rattle.runs.proofs.Demands.{no-job-missed}
-use Rattle.cores.specs.Ranks.{picked, ranked, coreTasks, tasksAt}
+use Rattle.cores.specs.Renumbered.{picked, renumbered, coreTasks, tasksAt}
 use Rattle.cores.specs.Tried.{Holds}
 use Rattle.cores.proofs.Trying.{core-few, core-good, core-passes, verdict-passes}
 use Rattle.cores.proofs.Demands as demands
@@ -48,7 +48,7 @@ module _ (t : Table) (good : tableRefusal t ≡ 0) (test : ℕ → Bool) (n : �
   -- and, with at least one of them, as a sheet, which holds them
   module _ (wide : Wide t) (some : 1 ≤ core .count) where
     table-wide : Wide coreTable
-    unfolding coreTasks tasksAt ranked
+    unfolding coreTasks tasksAt renumbered
     table-wide = record { interval = wide .interval; round = wide .round; period = λ place. go place (decLt place (core .count)) }
       where
         go : (place : ℕ) → Dec (place < core .count) → recordAt (room (core .at) (core .count)) place .period < 65536
@@ -69,7 +69,7 @@ module _ (t : Table) (good : tableRefusal t ≡ 0) (test : ℕ → Bool) (n : �
 
   -- a sheet that holds the tasks of a core that passes misses no job, in any log that its replay accepts
   pub core-misses-none : passes core ≡ true → (sheet log : List ℕ) → Holds core (tableOf sheet) → replayRefusal sheet log ≡ 0 → replayAnswer sheet log .counts .missed ≡ 0
-  unfolding coreTasks tasksAt ranked replayAnswer
+  unfolding coreTasks tasksAt renumbered replayAnswer
   core-misses-none passing sheet log holds accepted =
       no-job-missed sheet log accepted
       (λ k low. let same = holds .task k (subst (λ (m : ℕ). k < m) (holds .count) low) in ap (λ (r : Record). r .«fault_priority») same ∙ sym (ap (λ (r : Record). r .priority) same))

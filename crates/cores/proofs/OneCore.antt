@@ -13,27 +13,27 @@ use Rattle.sheet.specs.declared.Table.{Table}
 use Rattle.sheet.specs.Layout.{recordAt}
 use Rattle.sheet.specs.Rules.{tableRefusal}
 use Rattle.sheet.proofs.Cases.{good-table}
-use Rattle.analysis.specs.Tasks.{Tasks, tasksOf}
-use Rattle.analysis.specs.Allowed.{levelsOf}
-use Rattle.analysis.specs.Response.{passes}
-use Rattle.analysis.specs.Answers.{ownTasks}
-use Rattle.analysis.proofs.Choice.{level-at}
-use Rattle.cores.specs.Ranks.{picked, rankAmong, ranked, coreTasks, tasksAt}
+use Rattle.analysis.specs.Common.Tasks.{Tasks, tasksOf}
+use Rattle.analysis.specs.Common.Columns.{prioritiesOf}
+use Rattle.analysis.specs.Published.Response.{passes}
+use Rattle.analysis.specs.Common.Entries.{ownTasks}
+use Rattle.analysis.proofs.Laws.Common.Choice.{priority-at}
+use Rattle.cores.specs.Renumbered.{picked, priorityAmong, renumbered, coreTasks, tasksAt}
 use Rattle.cores.specs.FirstFit.{joins, stillPass, coresBefore, coreOf, fitsNone}
 use Rattle.cores.proofs.Picking.{picks, picked-all}
-use Rattle.cores.proofs.Ranking.{ranks-order}
+use Rattle.cores.proofs.Renumbering.{priorities-order}
 use Rattle.cores.proofs.Fewer.{Fewer, fewer-pass}
 use Rattle.cores.proofs.Trying.{distinct}
 use Rattle.cores.proofs.Demands.{isOn, core-lowest, core-passes, all-fitted}
-use Rattle.cores.proofs.Standing.{all-fit}
+use Rattle.cores.proofs.FittedSoFar.{all-fit}
 
 -- "the sheet .. with each q equal to p": under the choice of its own priorities
 abbrev pub raisedTasks : Table → Tasks
-raisedTasks t = tasksOf t (t .interval) (levelsOf t)
+raisedTasks t = tasksOf t (t .interval) (prioritiesOf t)
 
 module _ (t : Table) (good : tableRefusal t ≡ 0) where
   raised-at : (k : ℕ) → k < t .count → (raisedTasks t) .fault k ≡ recordAt (t .records) k .priority
-  raised-at k low = level-at t (good-table t good .count .1) k low
+  raised-at k low = priority-at t (good-table t good .count .1) k low
 
   module _ (test : ℕ → Bool) (n : ℕ) (few : n ≤ t .count) where
     abbrev core : Tasks
@@ -46,21 +46,21 @@ module _ (t : Table) (good : tableRefusal t ≡ 0) where
     old j = recordAt (t .records) (placeOf j) .priority
 
     order : (i j : ℕ) → i < core .count → j < core .count → old i < old j → core .at i .priority < core .at j .priority
-    order = ranks-order (ownTasks t) test n (distinct t good n few)
+    order = priorities-order (ownTasks t) test n (distinct t good n few)
 
-    -- a higher rank has a higher old priority
+    -- a higher priority on the core has a higher old priority
     order-back : (i j : ℕ) → i < core .count → j < core .count → core .at i .priority < core .at j .priority → old i < old j
-    unfolding coreTasks tasksAt ranked
+    unfolding coreTasks tasksAt renumbered
     order-back i j low-i low-j lt = go (decLt (old i) (old j)) (ℕ-discrete (old i) (old j))
       where
         go : Dec (old i < old j) → Dec (old i ≡ old j) → old i < old j
         go (yes is) side = is
-        go (no ge) (yes e) = absurd (omega (arith, lt, ap (rankAmong (recordAt (t .records)) test n) e))
+        go (no ge) (yes e) = absurd (omega (arith, lt, ap (priorityAmong (recordAt (t .records)) test n) e))
         go (no ge) (no e) = absurd (omega (arith, lt, order j i low-j low-i (omega arith)))
 
     -- a core's tasks are some of the sheet's
     core-fewer : Fewer core (raisedTasks t) placeOf
-    unfolding coreTasks tasksAt ranked
+    unfolding coreTasks tasksAt renumbered
     core-fewer =
         let known = picks test n in
         record {
@@ -100,15 +100,15 @@ module _ (t : Table) (good : tableRefusal t ≡ 0) where
     task-here : (k : ℕ) → k < t .count → recordAt (t .records) k ≡ recordAt (t .records) (getD (picked test (t .count)) k 0)
     task-here k low = ap (recordAt (t .records)) (sym (here k low))
 
-    rank-here : (i j : ℕ) → i < t .count → j < t .count → recordAt (t .records) i .priority < recordAt (t .records) j .priority → whole .at i .priority < whole .at j .priority
+    order-here : (i j : ℕ) → i < t .count → j < t .count → recordAt (t .records) i .priority < recordAt (t .records) j .priority → whole .at i .priority < whole .at j .priority
     unfolding coreTasks tasksAt
-    rank-here i j low-i low-j lt =
-        ranks-order (ownTasks t) test (t .count) (distinct t good (t .count) (omega arith)) i j (subst (λ (m : ℕ). i < m) (sym size) low-i) (subst (λ (m : ℕ). j < m) (sym size) low-j)
+    order-here i j low-i low-j lt =
+        priorities-order (ownTasks t) test (t .count) (distinct t good (t .count) (omega arith)) i j (subst (λ (m : ℕ). i < m) (sym size) low-i) (subst (λ (m : ℕ). j < m) (sym size) low-j)
         (subst (λ (a : Record). a .priority < recordAt (t .records) (getD (picked test (t .count)) j 0) .priority) (task-here i low-i)
         (subst (λ (b : Record). recordAt (t .records) i .priority < b .priority) (task-here j low-j) lt))
 
     whole-fewer : Fewer (raisedTasks t) whole (λ k. k)
-    unfolding coreTasks tasksAt ranked
+    unfolding coreTasks tasksAt renumbered
     whole-fewer =
         record {
           places = record { within = λ j h. subst (λ (m : ℕ). j < m) (sym size) h; rises = λ i j lt h. lt };
@@ -119,15 +119,15 @@ module _ (t : Table) (good : tableRefusal t ≡ 0) where
           backup = λ j h. ap (λ (r : Record). r .backup) (task-here j h);
           deadline = λ j h. ap (λ (r : Record). r .deadline) (task-here j h);
           period = λ j h. ap (λ (r : Record). r .period) (task-here j h);
-          above = rank-here;
-          not-below = λ i j low-i low-j le. ⊎-elim (same i j low-i low-j) (λ lt. omega (arith, rank-here i j low-i low-j lt)) (eq-or-lt-of-le le);
+          above = order-here;
+          not-below = λ i j low-i low-j le. ⊎-elim (same i j low-i low-j) (λ lt. omega (arith, order-here i j low-i low-j lt)) (eq-or-lt-of-le le);
           raised = raised-at;
           raised-there = λ j h. refl;
         }
       where
         same : (i j : ℕ) → i < t .count → j < t .count → recordAt (t .records) i .priority ≡ recordAt (t .records) j .priority → whole .at i .priority ≤ whole .at j .priority
         same i j low-i low-j e =
-            let alike = ap (rankAmong (recordAt (t .records)) test (t .count))
+            let alike = ap (priorityAmong (recordAt (t .records)) test (t .count))
             (sym (ap (λ (r : Record). r .priority) (task-here i low-i)) ∙ e ∙ ap (λ (r : Record). r .priority) (task-here j low-j)) in
             omega (arith, alike)
 

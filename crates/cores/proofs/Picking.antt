@@ -10,8 +10,8 @@ use native.Mathlib.Omega.{arith}
 use lib.ListN.{length, getD, set, length-append, List·getD-append}
 use lib.Seq.{getD-at, getD-set-same, getD-set-other}
 use mir.Val.{boolByte}
-use Rattle.analysis.specs.Totals.{sumBelow}
-use Rattle.cores.specs.Ranks.{picked, howMany}
+use Rattle.places.specs.Places.{sumBelow}
+use Rattle.cores.specs.Renumbered.{picked, howMany}
 
 -- 1 for a test that holds
 abbrev pub oneIf : Bool → ℕ

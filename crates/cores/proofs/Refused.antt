@@ -9,18 +9,16 @@ use native.Mathlib.Omega.{arith}
 use borrow.Author.Tests.{eqb-true, eqb-false}
 use lib.Dec.{eqb}
 use lib.ListN.{length, getD, replicate}
+use Rattle.places.proofs.Tells.{Tells, holds, fails}
+use Rattle.places.proofs.Filled.{filled-at, length-filled, alike-at, filled-past}
+use Rattle.places.proofs.Refusals.{next-of, first-of}
 use Rattle.sheet.specs.Layout.{tableOf}
-use Rattle.sheet.specs.Rules.{outside, sheetRefusal}
+use Rattle.sheet.specs.Rules.{outside, sheetRefusal, sharedRefusal, wholeSheetRefusal}
 use Rattle.sheet.specs.Broken.{Outside}
-use Rattle.sheet.proofs.Order.{sheet-in-order}
+use Rattle.sheet.proofs.Order.{sheet-in-order, whole-in-order, whole-tells}
 use Rattle.sheet.proofs.Refused.{given-unless}
-use Rattle.sheet.proofs.Tells.{Tells, holds, fails, outside-tells}
-use Rattle.sheet.proofs.Agree.{filled-at}
-use Rattle.sheet.proofs.Turns.{next-of, first-of, length-filled}
-use Rattle.analysis.proofs.Choice.{alike-at, filled-past}
-use Rattle.analysis.specs.Tasks.{Tasks}
-use Rattle.replay.specs.Rules.{startRefusal, sharedRefusal}
-use Rattle.replay.proofs.Order.{start-in-order, whole-tells}
+use Rattle.sheet.proofs.Cases.{outside-tells}
+use Rattle.analysis.specs.Common.Tasks.{Tasks}
 use Rattle.cores.specs.declared.Placing.{Placing}
 use Rattle.cores.specs.declared.Fit.the-variants.{Refused, Everyone, FitsNone}
 use Rattle.cores.specs.FirstFit.{coreOf, fitsNone}
@@ -80,34 +78,34 @@ module _ (refusal : ℕ) (s : Tasks) (number : ℕ) where
 
 module _ (sheet : List ℕ) (number : ℕ) where
   -- a refusal of the start is none of these
-  start-other : (n : ℕ) → 19 < n → startRefusal sheet ≡ n → ⊥
-  start-other n above e = ⊎-elim (λ z. omega arith) (⊎-elim (⊎-elim (λ h. omega (arith, h)) (λ h. omega (arith, h))) (λ h. omega (arith, h))) (start-in-order sheet .range)
+  start-other : (n : ℕ) → 19 < n → wholeSheetRefusal sheet ≡ n → ⊥
+  start-other n above e = ⊎-elim (λ z. omega arith) (⊎-elim (⊎-elim (λ h. omega (arith, h)) (λ h. omega (arith, h))) (λ h. omega (arith, h))) (whole-in-order sheet .range)
 
   -- 19 exactly if the sheet is good and the processor shared
   pub box-19 : (boxRefusal sheet number ≡ 19) ↔ ((sheetRefusal sheet ≡ 0) × ((tableOf sheet .round ≡ 1) × (tableOf sheet .share ≡ 1) → ⊥))
-  unfolding boxRefusal startRefusal sharedRefusal numberRefusal
-  box-19 = (λ e. given .0 (go (ℕ-discrete (startRefusal sheet) 0) e), λ h. first-of _ _ (λ z. omega (arith, given .1 h)) ∙ given .1 h)
+  unfolding boxRefusal wholeSheetRefusal sharedRefusal numberRefusal
+  box-19 = (λ e. given .0 (go (ℕ-discrete (wholeSheetRefusal sheet) 0) e), λ h. first-of _ _ (λ z. omega (arith, given .1 h)) ∙ given .1 h)
     where
-      given : (startRefusal sheet ≡ 19) ↔ ((sheetRefusal sheet ≡ 0) × ((tableOf sheet .round ≡ 1) × (tableOf sheet .share ≡ 1) → ⊥))
+      given : (wholeSheetRefusal sheet ≡ 19) ↔ ((sheetRefusal sheet ≡ 0) × ((tableOf sheet .round ≡ 1) × (tableOf sheet .share ≡ 1) → ⊥))
       given = given-unless (sheetRefusal sheet) 19 (sheet-in-order sheet .range) (omega arith) (whole-tells (tableOf sheet .round) (tableOf sheet .share))
 
       other : (b : Bool) → _≡_ {A = ℕ} (cond b 23 0) 19 → ⊥
       other true e = omega arith
       other false e = omega arith
 
-      go : Dec (startRefusal sheet ≡ 0) → boxRefusal sheet number ≡ 19 → startRefusal sheet ≡ 19
+      go : Dec (wholeSheetRefusal sheet ≡ 0) → boxRefusal sheet number ≡ 19 → wholeSheetRefusal sheet ≡ 19
       go (yes z) e = absurd (other (outside number 4) (sym (next-of _ z) ∙ e))
       go (no z) e = sym (first-of _ _ z) ∙ e
 
   -- "then 23 for a core count outside 1 to 4": exactly if the sheet is not refused so far and the number is 0 or above 4
-  pub box-23 : (boxRefusal sheet number ≡ 23) ↔ ((startRefusal sheet ≡ 0) × Outside number 4)
+  pub box-23 : (boxRefusal sheet number ≡ 23) ↔ ((wholeSheetRefusal sheet ≡ 0) × Outside number 4)
   unfolding boxRefusal numberRefusal
-  box-23 = (λ e. go (ℕ-discrete (startRefusal sheet) 0) e, λ h. next-of _ (h .0) ∙ told (outside-tells number 4) .1 (h .1))
+  box-23 = (λ e. go (ℕ-discrete (wholeSheetRefusal sheet) 0) e, λ h. next-of _ (h .0) ∙ told (outside-tells number 4) .1 (h .1))
     where
       told : {b : Bool} → Tells (Outside number 4) b → (_≡_ {A = ℕ} (cond b 23 0) 23) ↔ Outside number 4
       told (holds p) = (λ e. p, λ h. refl)
       told (fails n) = (λ e. absurd (omega arith), λ h. absurd (n h))
 
-      go : Dec (startRefusal sheet ≡ 0) → boxRefusal sheet number ≡ 23 → (startRefusal sheet ≡ 0) × Outside number 4
+      go : Dec (wholeSheetRefusal sheet ≡ 0) → boxRefusal sheet number ≡ 23 → (wholeSheetRefusal sheet ≡ 0) × Outside number 4
       go (yes z) e = (z, told (outside-tells number 4) .0 (sym (next-of _ z) ∙ e))
       go (no z) e = absurd (start-other 23 (omega arith) (sym (first-of _ _ z) ∙ e))

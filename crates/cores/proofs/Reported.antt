@@ -8,23 +8,22 @@ use native.Mathlib.Omega.{arith}
 use borrow.Author.Tests.{eq-eqb}
 use lib.Dec.{eqb}
 use lib.ListN.{getD, replicate}
+use Rattle.places.proofs.Filled.{filled-at}
+use Rattle.places.proofs.Refusals.{none-of}
 use Rattle.sheet.specs.Layout.{tableOf}
-use Rattle.sheet.specs.Rules.{sheetRefusal, tableRefusal}
-use Rattle.sheet.proofs.Agree.{filled-at}
+use Rattle.sheet.specs.Rules.{sheetRefusal, tableRefusal, wholeSheetRefusal}
 use Rattle.sheet.proofs.Cases.{good-table}
 use Rattle.sheet.proofs.Demands.{table-good}
-use Rattle.sheet.proofs.Turns.{none-of}
-use Rattle.analysis.specs.Tasks.{Tasks}
-use Rattle.analysis.specs.Response.{passes}
-use Rattle.analysis.specs.Answers.{ownTasks}
-use Rattle.replay.specs.Rules.{startRefusal}
-use Rattle.replay.specs.Answers.{replayRefusal, replayAnswer}
+use Rattle.analysis.specs.Common.Tasks.{Tasks}
+use Rattle.analysis.specs.Published.Response.{passes}
+use Rattle.analysis.specs.Common.Entries.{ownTasks}
+use Rattle.replay.specs.Logs.Answers.{replayRefusal, replayAnswer}
 use Rattle.cores.specs.declared.Fit.the-variants.{Everyone}
-use Rattle.cores.specs.Ranks.{coreTasks}
+use Rattle.cores.specs.Renumbered.{coreTasks}
 use Rattle.cores.specs.FirstFit.{coreOf, fitsNone}
 use Rattle.cores.specs.Tried.{Holds}
 use Rattle.cores.specs.Answers.{boxRefusal, coresOf, placingOf, placingAnswer}
-use Rattle.cores.proofs.Ranking.{tasks-agree}
+use Rattle.cores.proofs.Renumbering.{tasks-agree}
 use Rattle.cores.proofs.Refused.{everyone-told}
 use Rattle.cores.proofs.Demands.{core-passes}
 use Rattle.cores.proofs.OneCore.{raisedTasks, one-core}
@@ -32,8 +31,8 @@ use Rattle.cores.proofs.NoneMissed.{core-misses-none}
 
 -- a sheet and a number of cores that are not refused
 box-good : (sheet : List ℕ) (number : ℕ) → boxRefusal sheet number ≡ 0 → tableRefusal (tableOf sheet) ≡ 0
-unfolding boxRefusal startRefusal
-box-good sheet number fine = table-good sheet (none-of (sheetRefusal sheet) _ (none-of (startRefusal sheet) _ fine .0) .0)
+unfolding boxRefusal wholeSheetRefusal
+box-good sheet number fine = table-good sheet (none-of (sheetRefusal sheet) _ (none-of (wholeSheetRefusal sheet) _ fine .0) .0)
 
 module _ (sheet : List ℕ) (number : ℕ) (told : placingAnswer sheet number .fit ≡ Everyone) where
   abbrev s : Tasks

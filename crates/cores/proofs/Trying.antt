@@ -1,44 +1,38 @@
 -- A core's table by value: it is good where the sheet's is, so that it is never refused, and passes exactly if the core's tasks do. Assumes nothing.
-use Prim.Native.Nat.{ℕ, zero, suc, _-_, _≤_, _<_}
+use Prim.Native.Nat.{ℕ, suc, _-_, _≤_, _<_}
 use mathlib.Core.Path.{_≡_, refl, sym, ap, ap₂, subst, _∙_}
 use mathlib.Core.Bool.{Bool, false, _||_}
 use native.Mathlib.Omega.{arith}
 use borrow.Author.Tests.{eq-eqb, ne-eqb}
 use lib.Dec.{eqb}
 use lib.ListN.{getD}
+use Rattle.places.proofs.Some.{some-none}
+use Rattle.places.proofs.Refusals.{first-clear}
 use Rattle.sheet.specs.declared.Record.{Record}
 use Rattle.sheet.specs.declared.Table.{Table}
 use Rattle.sheet.specs.Layout.{recordAt, editionFor}
-use Rattle.sheet.specs.Places.{firstBelow}
 use Rattle.sheet.specs.Rules.{wrongShare, taken, recordRefusal, recordsRefusal, tableRefusal}
 use Rattle.sheet.proofs.Agree.{records-agree}
 use Rattle.sheet.proofs.Cases.{Good, good-table, good-at, table-records, outside-within, record-good}
 use Rattle.sheet.proofs.Ranks.{ranked}
-use Rattle.sheet.proofs.Turns.{next-of}
-use Rattle.analysis.specs.Tasks.{Tasks, ownChoice}
-use Rattle.analysis.specs.Response.{passes}
-use Rattle.analysis.specs.Answers.{ownTasks, ownAssessment}
-use Rattle.analysis.proofs.Choice.{own-at, own-refusal}
+use Rattle.analysis.specs.Common.Tasks.{Tasks, ownChoice}
+use Rattle.analysis.specs.Published.Response.{passes}
+use Rattle.analysis.specs.Common.Entries.{ownTasks}
+use Rattle.analysis.specs.Published.Answers.{ownAssessment}
+use Rattle.analysis.proofs.Laws.Common.Choice.{own-at, own-refusal}
 use Rattle.analysis.proofs.Refused.{assessed-verdict}
-use Rattle.analysis.proofs.Reordered.{passes-held}
-use Rattle.analysis.proofs.Verdicts.{none-below}
-use Rattle.cores.specs.Ranks as ranks
-use Rattle.cores.specs.Ranks.{coreTasks, tasksAt, picked}
+use Rattle.analysis.proofs.Laws.Published.Reordered.{passes-held}
+use Rattle.cores.specs.Renumbered as renumbering
+use Rattle.cores.specs.Renumbered.{coreTasks, tasksAt, picked}
 use Rattle.cores.specs.FirstFit.{joins, stillPass}
 use Rattle.cores.specs.Tried.{Holds, Tried}
 use Rattle.cores.proofs.Picking.{picks, many-few}
-use Rattle.cores.proofs.Ranking.{Distinct, ranks-within, ranks-apart}
+use Rattle.cores.proofs.Renumbering.{Distinct, priorities-within, priorities-apart}
 
 -- no two records of a good table have the same priority
 pub distinct : (t : Table) → tableRefusal t ≡ 0 → (n : ℕ) → n ≤ t .count → Distinct (recordAt (t .records)) n
 distinct t good n few j k low-j low-k e =
     ranked (t .count) (recordAt (t .records)) (good-table t good .records) .apart j k (omega arith) (omega arith) (ap (λ (p : ℕ). t .count - p) e)
-
--- where no place has a refusal there is none
-first-none : (refusal : ℕ → ℕ) (n : ℕ) → ((k : ℕ) → k < n → refusal k ≡ 0) → firstBelow refusal n ≡ 0
-unfolding firstBelow
-first-none refusal zero each = refl
-first-none refusal (suc n) each = next-of (refusal n) (first-none refusal n (λ k h. each k (omega arith))) ∙ each n (omega arith)
 
 -- a table that holds some tasks passes exactly if they do
 pub holds-passes : (s : Tasks) (t : Table) → Holds s t → t .count ≤ 8 → ((j : ℕ) → j < s .count → s .at j .«fault_priority» ≡ s .fault j) → passes (ownTasks t) ≡ passes s
@@ -71,21 +65,21 @@ module _ (t : Table) (good : tableRefusal t ≡ 0) (test : ℕ → Bool) (n : �
   unfolding coreTasks tasksAt
   task-good j low = good-at (t .count) (recordAt (t .records)) (good-table t good .records) (placeOf j) (omega (arith, picks test n .holds j low .0))
 
-  -- no earlier record of the core has the rank
+  -- no earlier record of the core has the priority
   fresh : (j : ℕ) → j < core .count → taken (core .at) j (core .at j .priority) ≡ false
   unfolding taken
   fresh j low =
-      none-below (λ earlier. eqb (core .at earlier .priority) (core .at j .priority)) j
-      (λ k h. ne-eqb _ _ (λ e. let same = ranks-apart (ownTasks t) test n (distinct t good n few) k j (omega arith) low e in omega arith))
+      some-none (λ earlier. eqb (core .at earlier .priority) (core .at j .priority)) j
+      (λ k h. ne-eqb _ _ (λ e. let same = priorities-apart (ownTasks t) test n (distinct t good n few) k j (omega arith) low e in omega arith))
 
   task-passed : (j : ℕ) → j < core .count → recordRefusal (core .count) (core .at) j ≡ 0
-  unfolding recordRefusal coreTasks tasksAt ranks.ranked
+  unfolding recordRefusal coreTasks tasksAt renumbering.renumbered
   task-passed j low =
       let known = task-good j low in
-      let level = ranks-within (ownTasks t) test n (distinct t good n few) j low in
+      let number = priorities-within (ownTasks t) test n (distinct t good n few) j low in
       sym
-      (record-good (core .count) (taken (core .at) j (core .at j .priority)) (core .at j) (outside-within _ _ (known .cost)) (outside-within _ _ (known .backup)) (known .deadline) (outside-within _ _ level) (fresh j low)
-      (outside-within _ _ (level .0, omega arith)))
+      (record-good (core .count) (taken (core .at) j (core .at j .priority)) (core .at j) (outside-within _ _ (known .cost)) (outside-within _ _ (known .backup)) (known .deadline) (outside-within _ _ number) (fresh j low)
+      (outside-within _ _ (number .0, omega arith)))
 
   -- the core has at most eight records
   pub core-few : core .count ≤ 8
@@ -101,11 +95,11 @@ module _ (t : Table) (good : tableRefusal t ≡ 0) (test : ℕ → Bool) (n : �
       (ap₂ (λ (round share : ℕ). wrongShare (editionFor round share) round share) (holds .round) (holds .share) ∙ known .share))
       ∙ ap (λ (m : ℕ). recordsRefusal m (recordAt (tried .records))) (holds .count)
       ∙ records-agree (core .count) (holds .task)
-      ∙ first-none (recordRefusal (core .count) (core .at)) (core .count) task-passed
+      ∙ first-clear (recordRefusal (core .count) (core .at)) (core .count) task-passed
 
   -- and passes exactly if they do
   pub core-passes : (tried : Table) → Holds core tried → passes (ownTasks tried) ≡ passes core
-  unfolding coreTasks tasksAt ranks.ranked
+  unfolding coreTasks tasksAt renumbering.renumbered
   core-passes tried holds = holds-passes core tried holds (subst (λ (m : ℕ). m ≤ 8) (sym (holds .count)) core-few) (λ j low. refl)
 
 -- The core that a record is tried on

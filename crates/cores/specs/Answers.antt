@@ -4,12 +4,12 @@ use mathlib.Core.Bool.{cond}
 use mathlib.Core.List.{List}
 use lib.Dec.{eqb}
 use lib.ListN.{replicate}
-use Rattle.sheet.specs.Places.{orElse, filledBelow}
+use Rattle.places.specs.Places.{filledBelow}
+use Rattle.places.specs.Refusals.{orElse}
 use Rattle.sheet.specs.Layout.{tableOf}
-use Rattle.sheet.specs.Rules.{outside}
-use Rattle.analysis.specs.Tasks.{Tasks}
-use Rattle.analysis.specs.Answers.{ownTasks}
-use Rattle.replay.specs.Rules.{startRefusal}
+use Rattle.sheet.specs.Rules.{outside, wholeSheetRefusal}
+use Rattle.analysis.specs.Common.Tasks.{Tasks}
+use Rattle.analysis.specs.Common.Entries.{ownTasks}
 use Rattle.cores.specs.declared.Placing.{Placing}
 use Rattle.cores.specs.declared.Fit.the-variants.{Refused, Everyone, FitsNone}
 use Rattle.cores.specs.FirstFit.{coreOf, fitsNone}
@@ -20,7 +20,7 @@ numberRefusal number = cond (outside number 4) 23 0
 
 -- "Refusals: a sheet's, 19, then 23"
 unfoldable pub boxRefusal : List ℕ → ℕ → ℕ
-boxRefusal sheet number = orElse (startRefusal sheet) (numberRefusal number)
+boxRefusal sheet number = orElse (wholeSheetRefusal sheet) (numberRefusal number)
 
 -- "each record's core", in record order, in room for eight; 0 past the count
 unfoldable pub coresOf : Tasks → ℕ → List ℕ

@@ -2,10 +2,10 @@
 use Prim.Native.Nat.{ℕ, zero, suc, _-_}
 use mathlib.Core.Bool.{Bool, cond, _||_}
 use lib.Dec.{eqb}
-use Rattle.analysis.specs.Tasks.{Tasks}
-use Rattle.analysis.specs.Search.{firstFrom}
-use Rattle.analysis.specs.Response.{passes}
-use Rattle.cores.specs.Ranks.{coreTasks}
+use Rattle.places.specs.Search.{firstFrom}
+use Rattle.analysis.specs.Common.Tasks.{Tasks}
+use Rattle.analysis.specs.Published.Response.{passes}
+use Rattle.cores.specs.Renumbered.{coreTasks}
 
 -- whether a record is on the core or is the one at the place, where each record's core is given
 unfoldable pub joins : (ℕ → ℕ) → ℕ → ℕ → ℕ → Bool

@@ -3,7 +3,7 @@ ghost use mathlib.Core.Path.{_≡_};
 ghost use Prim.Native.Nat.{_≤_, _<_};
 ghost use lib.ListN.{getD};
 ghost use Rattle.sheet.specs.Rules.{tableRefusal};
-ghost use Rattle.analysis.specs.Answers.{ownTasks};
+ghost use Rattle.analysis.specs.Common.Entries.{ownTasks};
 ghost use Rattle.cores.specs.FirstFit.{stillPass, lowestCore};
 ghost use Rattle.cores.specs.Answers.{placingOf};
 use crate::Fit;
@@ -13,7 +13,8 @@ use sheet::Table;
 
 // Whether the core's tasks still pass with the record at the place.
 fn still_pass(table: Table, cores: [u8; 8], place: usize, core: u8) -> bool
-    requires { ⌜ (tableRefusal table ≡ 0) × (place < table .count) ⌝ }
+    requires good { ⌜ tableRefusal table ≡ 0 ⌝ }
+    requires there { ⌜ place < table .count ⌝ }
     ensures { λ r. ⌜ r ≡ stillPass (ownTasks table) (λ k. getD cores k 0) place core ⌝ }
 {
     let assessment = analysis::assess(tables::table_with(table, cores, place, core));
@@ -22,7 +23,9 @@ fn still_pass(table: Table, cores: [u8; 8], place: usize, core: u8) -> bool
 
 // The lowest-numbered core where the record at the place fits, or 0.
 fn lowest(table: Table, number: u8, cores: [u8; 8], place: usize) -> u8
-    requires { ⌜ (tableRefusal table ≡ 0) × (place < table .count) × (number ≤ 4) ⌝ }
+    requires good { ⌜ tableRefusal table ≡ 0 ⌝ }
+    requires there { ⌜ place < table .count ⌝ }
+    requires few { ⌜ number ≤ 4 ⌝ }
     ensures { λ r. ⌜ r ≡ lowestCore (ownTasks table) number (λ k. getD cores k 0) place ⌝ }
 {
     let mut core: u8 = 1;
@@ -37,7 +40,8 @@ fn lowest(table: Table, number: u8, cores: [u8; 8], place: usize) -> u8
 
 // Each record of a good table on its core, up to the first that fits none.
 pub fn first_fit(table: Table, number: u8) -> Placing
-    requires { ⌜ (tableRefusal table ≡ 0) × (number ≤ 4) ⌝ }
+    requires good { ⌜ tableRefusal table ≡ 0 ⌝ }
+    requires few { ⌜ number ≤ 4 ⌝ }
     ensures { λ r. ⌜ r ≡ placingOf 0 (ownTasks table) number ⌝ }
 {
     let count = table.count;

@@ -5,7 +5,7 @@ ghost use mathlib.Core.Bool.{cond};
 ghost use Prim.Native.Nat.{suc, _≤_, _<_};
 ghost use lib.ListN.{getD};
 ghost use Rattle.sheet.specs.Layout.{recordAt};
-ghost use Rattle.cores.specs.Ranks.{rankAmong, ranked};
+ghost use Rattle.cores.specs.Renumbered.{priorityAmong, renumbered};
 ghost use Rattle.cores.specs.FirstFit.{joins};
 ghost use Rattle.cores.specs.Tried.{Tried};
 use sheet::Record;
@@ -21,37 +21,38 @@ fn joins(cores: [u8; 8], place: usize, core: u8, other: usize) -> bool
 
 // 1 for what is so, else 0.
 fn one_if(is_so: bool) -> u8
-    ensures { λ r. ⌜ (r ≡ cond «is_so» 1 0) × (r ≤ 1) ⌝ }
+    ensures answer { λ r. ⌜ r ≡ cond «is_so» 1 0 ⌝ }
+    ensures bounded { λ r. ⌜ r ≤ 1 ⌝ }
 {
     if is_so { 1 } else { 0 }
 }
 
-// The rank of a priority among the records of the core.
-fn rank(table: Table, cores: [u8; 8], place: usize, core: u8, priority: u8) -> u8
+// The priority on the core that a priority becomes: 1, and one more for each lower one among the records of the core.
+fn renumber(table: Table, cores: [u8; 8], place: usize, core: u8, priority: u8) -> u8
     requires { ⌜ place < 8 ⌝ }
-    ensures { λ r. ⌜ r ≡ rankAmong (recordAt (table .records)) (joins (λ k. getD cores k 0) place core) (suc place) priority ⌝ }
+    ensures { λ r. ⌜ r ≡ priorityAmong (recordAt (table .records)) (joins (λ k. getD cores k 0) place core) (suc place) priority ⌝ }
 {
-    let mut rank: u8 = 1;
+    let mut number: u8 = 1;
     let mut other: usize = 0;
     while other <= place {
         let is_lower = table.records[other].priority < priority;
-        rank += one_if(joins(cores, place, core, other) & is_lower);
+        number += one_if(joins(cores, place, core, other) & is_lower);
         other += 1;
     }
-    rank
+    number
 }
 
-// A record with a rank for both its priorities.
-fn ranked(task: Record, rank: u8) -> Record
-    ensures { λ r. ⌜ r ≡ ranked task rank ⌝ }
+// A record with a number for both its priorities.
+fn renumbered(task: Record, number: u8) -> Record
+    ensures { λ r. ⌜ r ≡ renumbered task number ⌝ }
 {
     Record {
         cost: task.cost,
         backup: task.backup,
         deadline: task.deadline,
         period: task.period,
-        priority: rank,
-        fault_priority: rank,
+        priority: number,
+        fault_priority: number,
     }
 }
 
@@ -65,8 +66,8 @@ pub fn table_with(table: Table, cores: [u8; 8], place: usize, core: u8) -> Table
     let mut other: usize = 0;
     while other <= place {
         let task = table.records[other];
-        let level = rank(table, cores, place, core, task.priority);
-        records[count] = ranked(task, level);
+        let number = renumber(table, cores, place, core, task.priority);
+        records[count] = renumbered(task, number);
         count += joins(cores, place, core, other) as usize;
         other += 1;
     }

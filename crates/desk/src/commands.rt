@@ -5,8 +5,8 @@ use records::replaying;
 use records::texts;
 use streams::words;
 use verdicts::assuring;
-use verdicts::coring;
 use verdicts::least;
+use verdicts::placing;
 use verdicts::releasing;
 
 // The commands, and that a word is none of them.
@@ -76,7 +76,7 @@ pub fn run(first: u8, is_explained: bool) -> u8 {
         Command::Check => replaying::run(asked, true),
         Command::Mend => mending::run(asked),
         Command::Assured => assuring::run(asked),
-        Command::Cores => coring::run(asked),
+        Command::Cores => placing::run(asked),
         Command::Release => releasing::run(asked),
         Command::Write => texts::write(asked),
         Command::Show => texts::show(asked),

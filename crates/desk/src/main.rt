@@ -4,12 +4,12 @@
 // refusal in words on standard error.
 mod commands;
 
-use streams::standing;
+use streams::endings;
 
 fn main() {
-    let word = standing::asked();
-    standing::tell(
+    let word = endings::asked();
+    endings::tell(
         word,
-        commands::run(standing::first(word), word == standing::EXPLAIN),
+        commands::run(endings::first(word), word == endings::EXPLAIN),
     );
 }

@@ -1,34 +1,35 @@
 -- The answers of a sheet that is read and asked: what each crate below answers, as a number, is what the definitions say.
 -- Assumes nothing.
-use Prim.Native.Nat.{ℕ, zero, suc, _<_}
+use Prim.Native.Nat.{ℕ, zero, suc, _+_, _*_, _≤_, _<_}
 use mathlib.Core.Path.{_≡_, refl, sym, ap, _∙_}
 use mathlib.Core.Bool.{Bool, true, false, cond}
 use mathlib.Core.List.{List}
+use native.Mathlib.Decide.{ℕ-discrete}
 use native.Mathlib.Nat.{suc-ne-zero}
 use native.Mathlib.Omega.{arith}
 use borrow.Author.Tests.{ne-eqb}
 use lib.Dec.{eqb}
 use lib.IntN.{ℤ}
 use mir.Val.{boolByte}
+use Rattle.places.specs.Refusals.{orElse}
+use Rattle.places.proofs.Refusals.{first-of, next-of, none-of}
 use Rattle.sheet.specs.declared.Reading.{Reading}
 use Rattle.sheet.specs.declared.Table.{Table}
-use Rattle.sheet.specs.Places.{orElse}
-use Rattle.sheet.specs.Layout.{tableOf}
+use Rattle.sheet.specs.Layout.{editionOf, startOf, tableOf, noTable}
 use Rattle.sheet.specs.Rules.{sheetRefusal, tableRefusal}
-use Rattle.sheet.specs.Answers.{readAnswer, placeRefusal}
-use Rattle.sheet.proofs.Turns.{first-of, next-of}
-use Rattle.sheet.proofs.Cases.{good-place}
+use Rattle.sheet.specs.Answers.{readAnswer, placeRefusal, partStart}
+use Rattle.sheet.proofs.Cases.{good-place, good-table}
 use Rattle.sheet.proofs.Demands.{read-good, table-good}
 use Rattle.analysis.specs.declared.Entry.{Entry}
 use Rattle.analysis.specs.declared.Timed.{Timed}
 use Rattle.analysis.specs.declared.Assessment.{Assessment}
 use Rattle.analysis.specs.declared.Interval.{Interval}
-use Rattle.analysis.specs.declared.Interval.the-variants.{Refused, Least, Nothing}
-use Rattle.analysis.specs.Response.{passes}
-use Rattle.analysis.specs.Answers.{ownTasks, entryOf, timedRefusal, timedAnswer, assessed, choiceAssessment, ownAssessment, leastInterval, leastOf, intervalAnswer}
+use Rattle.analysis.specs.Published.Response.{passes}
+use Rattle.analysis.specs.Common.Entries.{ownTasks, assessed}
+use Rattle.analysis.specs.Published.Answers.{entryOf, timedRefusal, timedAnswer, choiceAssessment, ownAssessment, leastInterval, leastOf, intervalAnswer}
 use Rattle.fidhaqooban.specs.Numbers.{answerOf, timeOf}
-use Rattle.analysis.proofs.Choice.{own-refusal}
-use Rattle.fidhaqooban.specs.Answers.{responseNumber, verdictNumber, intervalNumber}
+use Rattle.analysis.proofs.Laws.Common.Choice.{own-refusal}
+use Rattle.fidhaqooban.specs.Answers.{responseNumber, verdictNumber, intervalAnswered, intervalNumber, recordNumber}
 
 -- a number that is not 0 is tested so
 pub some : (n : ℕ) → eqb (suc n) 0 ≡ false
@@ -40,11 +41,41 @@ unfolding answerOf
 answered zero value other same = ap (answerOf 0) (same refl)
 answered (suc n) value other same = simp (some n)
 
+-- nothing to refuse after a refusal
+pub no-next : (first : ℕ) → orElse first 0 ≡ first
+unfolding orElse
+no-next zero = refl
+no-next (suc n) = simp (some n)
+
+-- the first of two refusals is told, beside no value; where there is none, what is asked answers
+pub asked : (first next value : ℕ) (number : ℤ) → (first ≡ 0 → answerOf next value ≡ number) → ((first ≡ 0 → ⊥) → answerOf first 0 ≡ number) → answerOf (orElse first next) value ≡ number
+asked first next value number good bad = go (ℕ-discrete first 0)
+  where
+    go : Dec (first ≡ 0) → answerOf (orElse first next) value ≡ number
+    go (yes none) = ap (λ (r : ℕ). answerOf r value) (next-of next none) ∙ good none
+    go (no broken) = ap (λ (r : ℕ). answerOf r value) (first-of first next broken) ∙ answered first value 0 (λ none. absurd (broken none)) ∙ bad broken
+
 -- a place that is not refused is one of eight
 pub place-few : (s : List ℕ) (place refusal : ℕ) → refusal ≡ placeRefusal s place → refusal ≡ 0 → place < 8
 place-few s place refusal e left =
     let known = good-place s place (sym e ∙ left) in
     omega (arith, known .0 .count .1, known .1)
+
+-- where the record at a place starts, as a number
+module _ (s : List ℕ) (place : ℕ) where
+  pub start-small : partStart s place < 128
+  unfolding partStart startOf
+  start-small = go (ℕ-discrete (placeRefusal s place) 0)
+    where
+      go : Dec (placeRefusal s place ≡ 0) → cond (eqb (placeRefusal s place) 0) (3 + 4 * editionOf s + 9 * place) 0 < 128
+      go (yes fine) =
+          let known = good-place s place fine in
+          simp fine (omega (arith, known .0 .edition, place-few s place (placeRefusal s place) refl fine))
+      go (no broken) = simp (ne-eqb (placeRefusal s place) 0 broken) (omega arith)
+
+  pub start-answered : answerOf (placeRefusal s place) (partStart s place) ≡ recordNumber s place
+  unfolding recordNumber partStart
+  start-answered = answered (placeRefusal s place) _ _ (λ fine. simp fine)
 
 -- what is known after a sheet is read
 module _ (s : List ℕ) (reading : Reading) (e : reading ≡ readAnswer s) where
@@ -61,6 +92,26 @@ module _ (s : List ℕ) (reading : Reading) (e : reading ≡ readAnswer s) where
   pub broken-read : (reading .refusal ≡ 0 → ⊥) → sheetRefusal s ≡ 0 → ⊥
   broken-read taken good = taken (refusal-read ∙ good)
 
+  -- a refused sheet gives zeros
+  pub no-table-read : (reading .refusal ≡ 0 → ⊥) → reading .table ≡ noTable
+  unfolding readAnswer
+  no-table-read taken = ap (λ (r : Reading). r .table) e ∙ simp (ne-eqb (sheetRefusal s) 0 (broken-read taken))
+
+  pub count-read : reading .table .count ≤ 8
+  count-read = go (ℕ-discrete (reading .refusal) 0)
+    where
+      go : Dec (reading .refusal ≡ 0) → reading .table .count ≤ 8
+      go (yes left) = rw (table-read left) (good-table (tableOf s) (table-good s (good-read left)) .count .1)
+      go (no taken) = omega (arith, ap (λ (t : Table). t .count) (no-table-read taken))
+
+  -- a sheet that gives a record is good
+  pub some-read : 1 ≤ reading .table .count → reading .refusal ≡ 0
+  some-read some = go (ℕ-discrete (reading .refusal) 0)
+    where
+      go : Dec (reading .refusal ≡ 0) → reading .refusal ≡ 0
+      go (yes left) = left
+      go (no taken) = absurd (omega (arith, ap (λ (t : Table). t .count) (no-table-read taken)))
+
   -- a refused sheet's answer has no value, and no further refusal
   module _ (taken : reading .refusal ≡ 0 → ⊥) (value : ℕ) where
     pub sheet-refused : answerOf (reading .refusal) 0 ≡ answerOf (sheetRefusal s) value
@@ -74,18 +125,12 @@ pub bool-number : (b : Bool) → boolByte b ≡ cond b 1 0
 bool-number true = refl
 bool-number false = refl
 
--- what an interval is as a number
-unfoldable pub intervalAnswered : Interval → ℤ
-intervalAnswered (Refused refusal) = answerOf refusal 0
-intervalAnswered (Least interval) = answerOf 0 interval
-intervalAnswered Nothing = answerOf 0 0
-
--- it is the least interval, or the refusal
-interval-answered : (refusal least : ℕ) → intervalAnswered (leastOf refusal least) ≡ answerOf refusal least
-unfolding intervalAnswered leastOf answerOf
-interval-answered zero zero = refl
-interval-answered zero (suc n) = simp (some n)
-interval-answered (suc n) least = simp (some n)
+-- an interval is the least one as a number, or the refusal
+interval-answered : (sheet refusal least : ℕ) → intervalAnswered sheet (leastOf refusal least) ≡ answerOf (orElse sheet refusal) least
+unfolding intervalAnswered leastOf
+interval-answered sheet zero zero = ap (λ (r : ℕ). answerOf r 0) (sym (no-next sheet))
+interval-answered sheet zero (suc n) = rw (some n) (ap (λ (r : ℕ). answerOf r (suc n)) (sym (no-next sheet)))
+interval-answered sheet (suc n) least = rw (some n) (answered (orElse sheet (suc n)) 0 least (λ none. absurd (suc-ne-zero n (none-of sheet (suc n) none .1))))
 
 -- a good sheet's answers
 module _ (s : List ℕ) (reading : Reading) (e : reading ≡ readAnswer s) (left : reading .refusal ≡ 0) where
@@ -108,20 +153,41 @@ module _ (s : List ℕ) (reading : Reading) (e : reading ≡ readAnswer s) (left
         ap (λ (t : Timed). t .entry) (given ∙ ap (λ (t : Table). timedAnswer t place) (table-read s reading e left))
         ∙ simp (place-refused place ∙ sym timed-refused ∙ fine)
 
-    pub response-is : answerOf (timed .refusal) (timeOf (timed .entry .outcome)) ≡ responseNumber s place
+-- the answers of a sheet that is read, refused or not
+module _ (s : List ℕ) (reading : Reading) (e : reading ≡ readAnswer s) where
+  module _ (place : ℕ) (timed : Timed) (given : timed ≡ timedAnswer (reading .table) place) where
+    pub place-asked : orElse (reading .refusal) (timed .refusal) ≡ placeRefusal s place
+    unfolding placeRefusal
+    place-asked = go (ℕ-discrete (reading .refusal) 0)
+      where
+        go : Dec (reading .refusal ≡ 0) → orElse (reading .refusal) (timed .refusal) ≡ placeRefusal s place
+        go (yes left) = next-of _ left ∙ timed-refused s reading e left place timed given
+        go (no taken) = first-of _ _ taken ∙ refusal-read s reading e ∙ sym (first-of (sheetRefusal s) _ (broken-read s reading e taken))
+
+    pub entry-asked : placeRefusal s place ≡ 0 → timed .entry ≡ entryOf (ownTasks (tableOf s)) place
+    entry-asked fine =
+        let none = none-of (reading .refusal) (timed .refusal) (place-asked ∙ fine) in
+        timed-entry s reading e (none .0) place timed given (none .1)
+
+    pub response-is : answerOf (orElse (reading .refusal) (timed .refusal)) (timeOf (timed .entry .outcome)) ≡ responseNumber s place
     unfolding responseNumber
     response-is =
-        answered (timed .refusal) _ _ (λ fine. ap (λ (x : Entry). timeOf (x .outcome)) (timed-entry fine))
-        ∙ ap (λ (r : ℕ). answerOf r (timeOf (entryOf (ownTasks (tableOf s)) place .outcome))) timed-refused
+        ap (λ (r : ℕ). answerOf r (timeOf (timed .entry .outcome))) place-asked
+        ∙ answered (placeRefusal s place) _ _ (λ fine. ap (λ (x : Entry). timeOf (x .outcome)) (entry-asked fine))
 
-  pub verdict-is : (answer : Assessment) → answer ≡ ownAssessment (reading .table) → answerOf (answer .refusal) (cond (answer .passes) 1 0) ≡ verdictNumber s
+  pub verdict-is : (answer : Assessment) → answer ≡ ownAssessment (reading .table) → answerOf (orElse (reading .refusal) (answer .refusal)) (cond (answer .passes) 1 0) ≡ verdictNumber s
   unfolding ownAssessment choiceAssessment assessed verdictNumber
   verdict-is answer given =
+      asked (reading .refusal) _ _ _ (λ left.
       ap (λ (a : Assessment). answerOf (a .refusal) (cond (a .passes) 1 0)) (given ∙ ap ownAssessment (table-read s reading e left))
-      ∙ simp (own-refusal (tableOf s), good-table-read, good-read s reading e left)
+      ∙ simp (own-refusal (tableOf s), good-table-read s reading e left, good-read s reading e left))
+      (λ taken. sheet-refused s reading e taken _)
 
-  pub interval-is : (interval : Interval) → interval ≡ intervalAnswer (reading .table) → intervalAnswered interval ≡ intervalNumber s
+  pub interval-is : (interval : Interval) → interval ≡ intervalAnswer (reading .table) → intervalAnswered (reading .refusal) interval ≡ intervalNumber s
   unfolding intervalAnswer intervalNumber
   interval-is interval given =
-      ap intervalAnswered (given ∙ ap intervalAnswer (table-read s reading e left)) ∙ interval-answered (tableRefusal (tableOf s)) (leastInterval (tableOf s))
-      ∙ ap (λ (r : ℕ). answerOf r (leastInterval (tableOf s))) (good-table-read ∙ sym (good-read s reading e left))
+      ap (intervalAnswered (reading .refusal)) given ∙ interval-answered (reading .refusal) (tableRefusal (reading .table)) (leastInterval (reading .table))
+      ∙ asked (reading .refusal) _ _ _ (λ left.
+      ap (λ (t : Table). answerOf (tableRefusal t) (leastInterval t)) (table-read s reading e left)
+      ∙ ap (λ (r : ℕ). answerOf r (leastInterval (tableOf s))) (good-table-read s reading e left ∙ sym (good-read s reading e left)))
+      (λ taken. sheet-refused s reading e taken _)

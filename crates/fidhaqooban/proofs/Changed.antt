@@ -9,11 +9,11 @@ use borrow.Author.Tests.{ne-eqb, le-ltb, lt-ltb}
 use lib.IntN.{ℤ}
 use lib.ListN.{length, take, drop, replicate, List·getD-append, length-append}
 use lib.Seq.{sets, sets-eq, take-at, take-all}
+use Rattle.places.proofs.Agree.{joined-agree}
+use Rattle.places.proofs.Joined.{length-joined}
+use Rattle.places.proofs.Refusals.{first-of, next-of}
 use Rattle.sheet.specs.Rules.{sheetRefusal}
 use Rattle.sheet.proofs.Spelled.{Bytes}
-use Rattle.sheet.proofs.Turns.{first-of, next-of}
-use Rattle.sheet.proofs.Agree.{joined-agree}
-use Rattle.sheet.proofs.Stores.{length-joined}
 use Rattle.mend.specs.declared.Change.{Change}
 use Rattle.mend.specs.declared.Changes.{Changes}
 use Rattle.mend.specs.declared.Mending.{Mending}

@@ -12,10 +12,10 @@ use lib.ListN.{length}
 use Rattle.sheet.specs.Layout.{tableOf}
 use Rattle.replay.specs.declared.Checked.{Checked}
 use Rattle.replay.specs.declared.Checked.the-variants.{Refused, Accepted, Differs}
-use Rattle.replay.specs.Machines.{machineOf}
-use Rattle.replay.specs.Shown.{matching}
-use Rattle.replay.specs.Answers.{compared, checkRefusal, checkAnswer}
-use Rattle.replay.proofs.Matched.{match-at-most, compared-refused, compared-accepted, compared-differs, accepted-only, differs-only}
+use Rattle.replay.specs.Ticks.Machines.{machineOf}
+use Rattle.replay.specs.Logs.Shown.{matching}
+use Rattle.replay.specs.Logs.Answers.{compared, checkRefusal, checkAnswer}
+use Rattle.replay.proofs.OfLogs.Matched.{match-at-most, compared-refused, compared-accepted, compared-differs, accepted-only, differs-only}
 use Rattle.fidhaqooban.specs.Numbers.{answerOf}
 use Rattle.fidhaqooban.specs.Answers.{checkNumber}
 use Rattle.fidhaqooban.proofs.Answered.{answered}

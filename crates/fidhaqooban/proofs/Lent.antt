@@ -9,9 +9,9 @@ use native.Mathlib.Omega.{arith}
 use borrow.Author.Tests.{ne-eqb}
 use lib.Dec.{eqb}
 use lib.IntN.{ℤ}
-use Rattle.sheet.specs.Places.{orElse}
-use Rattle.sheet.proofs.Tells.{Tells, holds, fails}
-use Rattle.sheet.proofs.Turns.{first-of, next-of}
+use Rattle.places.specs.Refusals.{orElse}
+use Rattle.places.proofs.Tells.{Tells, holds, fails}
+use Rattle.places.proofs.Refusals.{first-of, next-of}
 use Rattle.fidhaqooban.specs.Numbers.{answerOf}
 use Rattle.fidhaqooban.proofs.Answered.{answered}
 

@@ -9,9 +9,8 @@ use borrow.Author.Tests.{eq-eqb, ne-eqb, lt-ltb, le-ltb}
 use lib.Dec.{eqb, ltb}
 use lib.IntN.{ℤ}
 use lib.ListN.{length, getD, set, replicate, List·getD-eq-default}
-use Rattle.sheet.specs.Places.{filledBelow}
-use Rattle.sheet.proofs.Turns.{length-filled}
-use Rattle.sheet.proofs.Agree.{filled-at}
+use Rattle.places.specs.Places.{filledBelow}
+use Rattle.places.proofs.Filled.{length-filled, filled-at}
 use Rattle.locks.specs.declared.Job.{Job}
 use Rattle.locks.specs.declared.Request.{Request}
 use Rattle.locks.specs.declared.Granting.{Granting}

@@ -1,7 +1,7 @@
 -- What each function says, in the header's words and document 01's: minus the refusal's number, beside an output that stays as it was, or the value;
 -- and when 11 and 13 are given. Assumes nothing.
 use Prim.Native.Nat.{ℕ, _+_, _*_, _<_}
-use mathlib.Core.Path.{_≡_, refl, sym, ap, _∙_}
+use mathlib.Core.Path.{_≡_, refl, ap, _∙_}
 use mathlib.Core.Bool.{Bool, true, false, cond}
 use mathlib.Core.List.{List, [], _∷_, _++_}
 use mathlib.Core.Logic.{_⊎_, _↔_, ⊎-elim}
@@ -12,20 +12,20 @@ use borrow.Author.Tests.{eq-eqb, ne-eqb}
 use lib.Dec.{ltb}
 use lib.IntN.{ℤ, pos, negℤ}
 use lib.ListN.{length, getD, set, take, drop}
-use Rattle.sheet.specs.Places.{orElse}
+use Rattle.places.proofs.Tells.{ltb-tells, eqb-tells, or-tells}
+use Rattle.places.proofs.Joined.{run-at}
+use Rattle.places.proofs.Refusals.{next-of}
 use Rattle.sheet.specs.Layout.{headerSize, sizeOf, countOf, startOf, isWhole, editionFor, tableSize, tableOf}
 use Rattle.sheet.specs.Rules.{sheetRefusal}
 use Rattle.sheet.specs.Answers.{writeRefusal, placeRefusal}
-use Rattle.sheet.proofs.Tells.{Tells, holds, fails, ltb-tells, eqb-tells, or-tells}
-use Rattle.sheet.proofs.Turns.{first-of, next-of}
 use Rattle.sheet.proofs.Order.{sheet-in-order}
 use Rattle.sheet.proofs.Demands.{table-good}
-use Rattle.sheet.proofs.Return.{run-at}
 use Rattle.sheet.proofs.Refused.{tried-last, given-if, write-refused-leaves}
 use Rattle.analysis.specs.declared.Slack.the-variants.{Figure, NoFigure}
-use Rattle.analysis.specs.Response.{responseTime, late, passes}
-use Rattle.analysis.specs.Answers.{outcomeOf, entryFrom, entryOf, ownTasks, leastInterval}
-use Rattle.analysis.proofs.Choice.{Allowed}
+use Rattle.analysis.specs.Published.Response.{responseTime, late, passes}
+use Rattle.analysis.specs.Common.Entries.{outcomeOf, entryFrom, ownTasks}
+use Rattle.analysis.specs.Published.Answers.{entryOf, leastInterval}
+use Rattle.analysis.proofs.Laws.Common.Choice.{Allowed}
 use Rattle.choices.specs.Choices.{passingOf}
 use Rattle.choices.specs.Order.{afterOf}
 use Rattle.choices.specs.Answers.{walkRefusal, listRefusal}
@@ -35,10 +35,10 @@ use Rattle.mend.specs.declared.Change.{Change}
 use Rattle.mend.specs.Mended.{mended}
 use Rattle.mend.specs.Changes.{noChange, changesOf}
 use Rattle.fidhaqooban.specs.Numbers.{answerOf, tableFrom, givenTable, timeOf, figuresOf, figureIn, entriesOf, choiceOf, countNumbers, changeNumbers, changesFrom, changesNumbers}
-use Rattle.replay.specs.Machines.{machineOf}
-use Rattle.replay.specs.Shown.{matching}
-use Rattle.replay.specs.Answers.{replayAnswer, checkRefusal}
-use Rattle.fidhaqooban.specs.Answers.{writeSharedNumber, writeSharedLeft, writeNumber, writeLeft, rewriteRefusal, rewriteNumber, rewriteLeft, recordNumber, responseNumber, slackRefusal, slackNumber, slackLeft, verdictNumber, intervalNumber, firstNumber, nextRefusal, nextNumber, listingRefusal, listNumber, listLeft, replayedRefusal, replayNumber, replayLeft, checkNumber, mendingRefusal, mendNumber, mendLeft, mendListed, firstOut, coresRefusal, coresNumber, releaseNumber}
+use Rattle.replay.specs.Ticks.Machines.{machineOf}
+use Rattle.replay.specs.Logs.Shown.{matching}
+use Rattle.replay.specs.Logs.Answers.{replayAnswer, checkRefusal}
+use Rattle.fidhaqooban.specs.Answers.{writeSharedNumber, writeSharedLeft, writeNumber, rewriteRefusal, rewriteNumber, rewriteLeft, recordNumber, responseNumber, slackRefusal, slackNumber, slackLeft, verdictNumber, intervalNumber, firstNumber, nextRefusal, nextNumber, listingRefusal, listNumber, listLeft, replayedRefusal, replayNumber, replayLeft, checkNumber, mendingRefusal, mendNumber, mendLeft, mendListed, firstOut, coresRefusal, coresNumber, releaseNumber}
 use Rattle.locks.specs.declared.Starts.{Starts}
 use Rattle.locks.specs.declared.Resource.{Resource}
 use Rattle.locks.specs.declared.Request.{Request}

@@ -2,18 +2,16 @@
 use Prim.Native.Nat.{ℕ, _≤_, _<_}
 use mathlib.Core.Path.{_≡_, refl, sym, ap, _∙_}
 use mathlib.Core.List.{List}
-use native.Mathlib.Omega.{arith}
 use borrow.Author.Tests.{ne-eqb, le-ltb, lt-ltb}
 use lib.ListN.{length}
 use lib.IntN.{ℤ}
 use lib.Seq.{sets, sets-eq}
-use Rattle.sheet.proofs.Turns.{first-of, next-of}
+use Rattle.places.proofs.Refusals.{first-of, next-of}
 use Rattle.replay.specs.declared.Counts.{Counts}
 use Rattle.replay.specs.declared.Replayed.{Replayed}
-use Rattle.replay.specs.Answers.{replayRefusal, replayAnswer}
+use Rattle.replay.specs.Logs.Answers.{replayRefusal, replayAnswer}
 use Rattle.fidhaqooban.specs.Numbers.{answerOf, countNumbers}
 use Rattle.fidhaqooban.specs.Answers.{replayedRefusal, replayNumber, replayLeft}
-use Rattle.fidhaqooban.proofs.Answered.{answered}
 
 -- the refusal and the counts of a replay
 module _ (sheet log : List ℕ) (replayed : Replayed) (given : replayed ≡ replayAnswer sheet log) where

@@ -1,7 +1,7 @@
 -- What `fq_cores` answers and leaves in each of its cases, by what `place` answered. Assumes nothing.
 use Prim.Native.Nat.{ℕ, suc, _+_, _≤_, _<_}
 use mathlib.Core.Path.{_≡_, refl, sym, ap, _∙_}
-use mathlib.Core.Bool.{Bool, true, false, _&&_}
+use mathlib.Core.Bool.{and-false}
 use mathlib.Core.List.{List, _++_}
 use native.Mathlib.Numerals.{add-one}
 use native.Mathlib.Omega.{arith}
@@ -10,11 +10,10 @@ use lib.Dec.{eqb}
 use lib.IntN.{ℤ}
 use lib.ListN.{length, getD, set, take, drop}
 use lib.Seq.{drop-cons, set-at, take-suc, append-snoc, length-take-le}
+use Rattle.places.proofs.Refusals.{first-of, next-of, none-of}
 use Rattle.sheet.specs.Layout.{countOf, tableOf}
-use Rattle.sheet.specs.Rules.{sheetRefusal}
-use Rattle.sheet.proofs.Turns.{first-of, next-of, none-of}
-use Rattle.analysis.specs.Answers.{ownTasks}
-use Rattle.replay.specs.Rules.{startRefusal}
+use Rattle.sheet.specs.Rules.{sheetRefusal, wholeSheetRefusal}
+use Rattle.analysis.specs.Common.Entries.{ownTasks}
 use Rattle.cores.specs.declared.Placing.{Placing}
 use Rattle.cores.specs.declared.Fit.the-variants.{Refused, Everyone, FitsNone}
 use Rattle.cores.specs.Answers.{boxRefusal, coresOf, placingAnswer}
@@ -48,11 +47,7 @@ module _ (sheet : List ℕ) (number : ℕ) (out : List ℕ) where
 
   room-fine : boxRefusal sheet number ≡ 0 → countOf sheet ≤ length out → coresRefusal sheet number out ≡ 0
   unfolding coresRefusal
-  room-fine good room = next-of _ good ∙ simp (le-ltb (length out) (countOf sheet) room, last (eqb (firstOut sheet number) 0))
-    where
-      last : (b : Bool) → (b && false) ≡ false
-      last true = refl
-      last false = refl
+  room-fine good room = next-of _ good ∙ simp (le-ltb (length out) (countOf sheet) room, and-false (eqb (firstOut sheet number) 0))
 
   module _ (placing : Placing) (given : placing ≡ placingAnswer sheet number) where
     fit-given : placing .fit ≡ placingAnswer sheet number .fit
@@ -81,8 +76,8 @@ module _ (sheet : List ℕ) (number : ℕ) (out : List ℕ) where
 
       -- the sheet is good
       pub settled-good : sheetRefusal sheet ≡ 0
-      unfolding boxRefusal startRefusal
-      settled-good = none-of (sheetRefusal sheet) _ (none-of (startRefusal sheet) _ (known .0) .0) .0
+      unfolding boxRefusal wholeSheetRefusal
+      settled-good = none-of (sheetRefusal sheet) _ (none-of (wholeSheetRefusal sheet) _ (known .0) .0) .0
 
       -- 11 where there is no room for the cores
       pub settled-short : length out < countOf sheet → Settled (answerOf 11 0) out

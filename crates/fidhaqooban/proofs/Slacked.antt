@@ -5,12 +5,12 @@ use mathlib.Core.List.{List}
 use borrow.Author.Tests.{eq-eqb, ne-eqb}
 use lib.IntN.{ℤ}
 use lib.ListN.{length}
-use Rattle.sheet.specs.Rules.{sheetRefusal}
+use Rattle.places.proofs.Refusals.{first-of, next-of}
 use Rattle.sheet.specs.Layout.{tableOf}
 use Rattle.sheet.specs.Answers.{placeRefusal}
-use Rattle.sheet.proofs.Turns.{first-of, next-of}
 use Rattle.analysis.specs.declared.Slack.{Slack}
-use Rattle.analysis.specs.Answers.{entryOf, ownTasks}
+use Rattle.analysis.specs.Published.Answers.{entryOf}
+use Rattle.analysis.specs.Common.Entries.{ownTasks}
 use Rattle.fidhaqooban.specs.Numbers.{answerOf, figuresOf, figureIn}
 use Rattle.fidhaqooban.specs.Answers.{slackRefusal, slackNumber, slackLeft}
 use Rattle.fidhaqooban.proofs.Answered.{answered}
@@ -34,16 +34,10 @@ module _ (s : List ℕ) (place : ℕ) (out : List ℤ) where
   unfolding slackNumber slackLeft
   given-slack slack fine is = simp (fine, is) (refl, refl)
 
-  -- the refusal of a refused sheet or place is that of the call
+  -- the refusal of a refused place is that of the call
   pub place-first : (placeRefusal s place ≡ 0 → ⊥) → placeRefusal s place ≡ slackRefusal s place out
   unfolding slackRefusal
   place-first broken = sym (first-of (placeRefusal s place) _ broken)
-
-  pub sheet-first : (sheetRefusal s ≡ 0 → ⊥) → sheetRefusal s ≡ slackRefusal s place out
-  unfolding placeRefusal
-  sheet-first broken =
-      let first = sym (first-of (sheetRefusal s) _ broken) in
-      first ∙ place-first (λ none. broken (first ∙ none))
 
   -- 11 where there is no room, and else none
   pub no-room : placeRefusal s place ≡ 0 → length out ≡ 0 → 11 ≡ slackRefusal s place out

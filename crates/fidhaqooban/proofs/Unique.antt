@@ -83,7 +83,7 @@ fq-grant-unique κs args a b s u = both-parts
 
 pub fq-mend-unique : (κs : Lfts 3) (args : _) (a b : ℤ) (s u : _) → mend.Learnt κs args a s → mend.Learnt κs args b u
     → (a ≡ b) × (s .1 .0 .now ≡ u .1 .0 .now) × (s .1 .1 .0 .now ≡ u .1 .1 .0 .now)
-fq-mend-unique κs args a b s u p q = (both (p .0) (q .0), both (p .1) (q .1), both (p .2) (q .2))
+fq-mend-unique κs args a b s u p q = (both (p .0) (q .0), both (p .1 .0) (q .1 .0), both (p .1 .1) (q .1 .1))
 
 pub fq-cores-unique : (κs : Lfts 2) (args : _) (a b : ℤ) (s u : _) → cores.Learnt κs args a s → cores.Learnt κs args b u → (a ≡ b) × (s .1 .1 .0 .now ≡ u .1 .1 .0 .now)
 fq-cores-unique κs args a b s u = both-parts

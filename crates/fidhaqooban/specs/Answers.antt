@@ -5,21 +5,27 @@ use mathlib.Core.List.{List, [], _∷_, _++_}
 use lib.Dec.{eqb, ltb}
 use lib.IntN.{ℤ}
 use lib.ListN.{length, take, drop}
-use Rattle.sheet.specs.Places.{orElse, filledBelow}
+use Rattle.places.specs.Places.{filledBelow}
+use Rattle.places.specs.Refusals.{orElse}
 use Rattle.sheet.specs.Layout.{countOf, tableSize, startOf, tableOf}
 use Rattle.sheet.specs.Rules.{sheetRefusal}
 use Rattle.sheet.specs.Answers.{writeRefusal, writeLeaves, placeRefusal}
-use Rattle.analysis.specs.Response.{passes}
-use Rattle.analysis.specs.Answers.{entryOf, ownTasks, leastInterval}
+use Rattle.analysis.specs.Published.Response.{passes}
+use Rattle.analysis.specs.Published.Answers.{entryOf, leastInterval}
+use Rattle.analysis.specs.Common.Entries.{ownTasks}
+use Rattle.analysis.specs.declared.Interval.{Interval}
+use Rattle.analysis.specs.declared.Interval.the-variants.{Refused, Least, Nothing}
+use Rattle.analysis.specs.declared.Rule.{Rule}
+use Rattle.analysis.specs.ByRule.{meets}
 use Rattle.choices.specs.declared.Arrival.{Arrival}
-use Rattle.choices.specs.declared.Arrival.the-variants.{Passing, End, Refused}
-use Rattle.choices.specs.Choices.{passingOf}
+use Rattle.choices.specs.declared.Arrival.the-variants.{Found, End, Refused as Stopped}
+use Rattle.choices.specs.Choices.{chosen, passingOf}
 use Rattle.choices.specs.Order.{afterOf}
-use Rattle.choices.specs.Answers.{walkRefusal, listRefusal, listLeaves}
+use Rattle.choices.specs.Answers.{walkRefusal, listRefusal, listLeaves, startRefusal, refusalBy, leavesBy}
 use Rattle.assured.specs.Answers.{assuredOf, stepRefusal, placeRefusal as askedRefusal, entryOf as assuredEntry, listRefusal as assuredRoom, listLeaves as assuredLeaves}
-use Rattle.replay.specs.Machines.{machineOf}
-use Rattle.replay.specs.Shown.{matching}
-use Rattle.replay.specs.Answers.{replayRefusal, replayAnswer, checkRefusal}
+use Rattle.replay.specs.Ticks.Machines.{machineOf}
+use Rattle.replay.specs.Logs.Shown.{matching}
+use Rattle.replay.specs.Logs.Answers.{replayRefusal, replayAnswer, checkRefusal}
 use Rattle.mend.specs.Mended.{mended}
 use Rattle.mend.specs.Changes.{changesOf}
 use Rattle.cores.specs.FirstFit.{fitsNone}
@@ -95,16 +101,34 @@ timesLeft sheet out = cond (eqb (timesRefusal sheet out) 0) (filledBelow (λ k. 
 unfoldable pub intervalNumber : List ℕ → ℤ
 intervalNumber sheet = answerOf (sheetRefusal sheet) (leastInterval (tableOf sheet))
 
+-- a least interval as a number, after the refusal of its sheet
+unfoldable pub intervalAnswered : ℕ → Interval → ℤ
+intervalAnswered sheet (Refused refusal) = answerOf (orElse sheet refusal) 0
+intervalAnswered sheet (Least least) = answerOf sheet least
+intervalAnswered sheet Nothing = answerOf sheet 0
+
 -- the first of some choices as a number, 0 where there is none
 unfoldable pub firstNumber : List (List ℕ) → ℕ
 firstNumber [] = 0
 firstNumber (choice ∷ later) = choiceOf choice
 
--- what a step is as a number
-unfoldable pub arrivalAnswered : Arrival → List ℕ → ℤ
-arrivalAnswered (Refused refusal) entries = answerOf refusal 0
-arrivalAnswered Passing entries = answerOf 0 (choiceOf entries)
-arrivalAnswered End entries = answerOf 0 0
+-- what a step is as a number, after the refusal of its sheet
+unfoldable pub arrivalAnswered : ℕ → Arrival → List ℕ → ℤ
+arrivalAnswered sheet (Stopped refusal) entries = answerOf (orElse sheet refusal) 0
+arrivalAnswered sheet Found entries = answerOf sheet (choiceOf entries)
+arrivalAnswered sheet End entries = answerOf sheet 0
+
+-- the next choice of a sheet by a rule: the sheet's refusal, then the step's, or the choice, 0 at the end
+unfoldable pub nextBy : Rule → List ℕ → ℕ → ℤ
+nextBy rule sheet after = answerOf (orElse (sheetRefusal sheet) (startRefusal rule (tableOf sheet) (entriesOf after))) (firstNumber (afterOf (entriesOf after) (chosen (meets rule) (tableOf sheet))))
+
+-- every choice of a sheet by a rule: the sheet's refusal, then the list's, or the number of entries
+unfoldable pub listedBy : Rule → List ℕ → List ℕ → ℤ
+listedBy rule sheet out = answerOf (orElse (sheetRefusal sheet) (refusalBy rule (tableOf sheet) out)) (length (chosen (meets rule) (tableOf sheet)))
+
+-- what that leaves in the output: every choice and then the bytes as they were, or all as it was
+unfoldable pub listedLeft : Rule → List ℕ → List ℕ → List ℕ
+listedLeft rule sheet out = cond (eqb (sheetRefusal sheet) 0) (leavesBy rule (tableOf sheet) out) out
 
 -- the refusal of `fq_next`: the sheet's, then the walk's
 unfoldable pub nextRefusal : List ℕ → ℕ → ℕ

@@ -5,7 +5,8 @@ use mathlib.Core.List.{List}
 use lib.Dec.{eqb}
 use lib.IntN.{ℤ}
 use lib.ListN.{length, set, replicate}
-use Rattle.sheet.specs.Places.{orElse, filledBelow}
+use Rattle.places.specs.Places.{filledBelow}
+use Rattle.places.specs.Refusals.{orElse}
 use Rattle.locks.specs.declared.Job.{Job}
 use Rattle.locks.specs.declared.Starts.{Starts}
 use Rattle.locks.specs.declared.Resource.{Resource}

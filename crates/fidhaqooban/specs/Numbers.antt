@@ -5,10 +5,10 @@ use mathlib.Core.List.{List, [], _∷_}
 use lib.Dec.{eqb}
 use lib.IntN.{ℤ, pos, negℤ}
 use lib.ListN.{length, getD, set, take, replicate}
+use Rattle.places.specs.Places.{joinedBelow}
 use Rattle.sheet.specs.declared.Record.{Record}
 use Rattle.sheet.specs.declared.Table.{Table}
 use Rattle.sheet.specs.Packing.{packed, unpacked}
-use Rattle.sheet.specs.Places.{joinedBelow}
 use Rattle.sheet.specs.Layout.{room}
 use Rattle.mend.specs.declared.Change.{Change}
 use Rattle.mend.specs.Changes.{fieldNumber, noChange}

@@ -1,17 +1,20 @@
 // The desk for firmware: its calls under the names and in the numbers of C. A refused call answers minus the refusal number.
-// Each function is thin: it reads the sheet, asks the crate that answers, and turns the answer into a number.
+// Each function is thin: it reads the sheet, asks the crate that answers, and turns the answer into a number. The table of a refused sheet is
+// zeros, which every call refuses too and leaves an output for as it was; of the two refusals the sheet's is told.
 ghost use mathlib.Core.Path.{_≡_};
 ghost use Rattle.sheet.specs.Rules.{sheetRefusal};
 ghost use Rattle.fidhaqooban.specs.Answers.{writeSharedNumber, writeSharedLeft, writeNumber, writeLeft, rewriteNumber, rewriteLeft, recordNumber, responseNumber, slackNumber, slackLeft, verdictNumber, timesNumber, timesLeft, intervalNumber, nextNumber, listNumber, listLeft, assuredNumber, assuredNextNumber, assuredListNumber, assuredListLeft, replayNumber, replayLeft, checkNumber, mendNumber, mendLeft, mendListed, coresNumber, coresLeft, releaseNumber};
 ghost use Rattle.fidhaqooban.specs.Locking.{givenRequest, grantingOf, lockNumber, lockLeft};
-use analysis::Interval;
-use choices::Walk;
+use analysis::Rule;
 use cores::Fit;
 use locks::Request;
 use replay::Checked;
 
+mod answers;
+mod choosing;
+mod given;
 mod locking;
-mod numbers;
+mod outputs;
 
 // 0 where the sheet is good, or the refusal.
 #[no_mangle]
@@ -31,16 +34,18 @@ pub extern "C" fn fq_write_shared(
     fields: &[u16],
     out: &mut [u8],
 ) -> i64
-    ensures { λ r. ⌜ (r ≡ writeSharedNumber count interval round share (now (fields .entry)) (now (out .entry))) × (now (out .exit) ≡ writeSharedLeft count interval round share (now (fields .entry)) (now (out .entry))) ⌝ }
+    ensures answer { λ r. ⌜ r ≡ writeSharedNumber count interval round share (now (fields .entry)) (now (out .entry)) ⌝ }
+    ensures left { λ _. ⌜ now (out .exit) ≡ writeSharedLeft count interval round share (now (fields .entry)) (now (out .entry)) ⌝ }
 {
-    let writing = sheet::write(numbers::table(count, interval, round, share, fields), out);
-    numbers::answer(writing.refusal, writing.written)
+    let writing = sheet::write(given::table(count, interval, round, share, fields), out);
+    answers::answer(writing.refusal, writing.written)
 }
 
 // The same for the whole processor.
 #[no_mangle]
 pub extern "C" fn fq_write(count: u8, interval: u16, fields: &[u16], out: &mut [u8]) -> i64
-    ensures { λ r. ⌜ (r ≡ writeNumber count interval (now (fields .entry)) (now (out .entry))) × (now (out .exit) ≡ writeLeft count interval (now (fields .entry)) (now (out .entry))) ⌝ }
+    ensures answer { λ r. ⌜ r ≡ writeNumber count interval (now (fields .entry)) (now (out .entry)) ⌝ }
+    ensures left { λ _. ⌜ now (out .exit) ≡ writeLeft count interval (now (fields .entry)) (now (out .entry)) ⌝ }
 {
     fq_write_shared(count, interval, 1, 1, fields, out)
 }
@@ -48,15 +53,13 @@ pub extern "C" fn fq_write(count: u8, interval: u16, fields: &[u16], out: &mut [
 // Reads a sheet and writes it again: how many bytes.
 #[no_mangle]
 pub extern "C" fn fq_rewrite(sheet: &[u8], out: &mut [u8]) -> i64
-    ensures { λ r. ⌜ (r ≡ rewriteNumber (now (sheet .entry)) (now (out .entry))) × (now (out .exit) ≡ rewriteLeft (now (sheet .entry)) (now (out .entry))) ⌝ }
+    ensures answer { λ r. ⌜ r ≡ rewriteNumber (now (sheet .entry)) (now (out .entry)) ⌝ }
+    ensures left { λ _. ⌜ now (out .exit) ≡ rewriteLeft (now (sheet .entry)) (now (out .entry)) ⌝ }
 {
     let reading = sheet::read(sheet);
-    if reading.refusal != 0 {
-        return numbers::answer(reading.refusal, 0);
-    }
-    let table = reading.table;
-    let rewriting = sheet::write(table, out);
-    numbers::answer(rewriting.refusal, rewriting.written)
+    let rewriting = sheet::write(reading.table, out);
+    let refusal = answers::first(reading.refusal, rewriting.refusal);
+    answers::answer(refusal, rewriting.written)
 }
 
 // Where the nine bytes of the record at a place start.
@@ -64,11 +67,8 @@ pub extern "C" fn fq_rewrite(sheet: &[u8], out: &mut [u8]) -> i64
 pub extern "C" fn fq_record(sheet: &[u8], place: usize) -> i64
     ensures { λ r. ⌜ r ≡ recordNumber (now (sheet .entry)) place ⌝ }
 {
-    let refusal = sheet::judge_place(sheet, place);
-    if refusal != 0 {
-        return numbers::answer(refusal, 0);
-    }
-    numbers::answer(0, numbers::start(sheet) + 9 * place)
+    let found = sheet::record_start(sheet, place);
+    answers::answer(found.refusal, found.start)
 }
 
 // The response time of the record at a place, 0 where it is late.
@@ -77,36 +77,31 @@ pub extern "C" fn fq_response(sheet: &[u8], place: usize) -> i64
     ensures { λ r. ⌜ r ≡ responseNumber (now (sheet .entry)) place ⌝ }
 {
     let reading = sheet::read(sheet);
-    if reading.refusal != 0 {
-        return numbers::answer(reading.refusal, 0);
-    }
-    let table = reading.table;
-    let timed = analysis::response_time(table, place);
+    let timed = analysis::response_time(reading.table, place);
+    let refusal = answers::first(reading.refusal, timed.refusal);
     let entry = timed.entry;
     let outcome = entry.outcome;
-    numbers::answer(timed.refusal, numbers::time_of(outcome))
+    answers::answer(refusal, answers::time_of(outcome))
 }
 
 // Puts the slack of the record at a place, the deadline less the response time, into the output: 1, or 0 where there is no figure.
 #[no_mangle]
 pub extern "C" fn fq_slack(sheet: &[u8], place: usize, out: &mut [i32]) -> i64
-    ensures { λ r. ⌜ (r ≡ slackNumber (now (sheet .entry)) place (now (out .entry))) × (now (out .exit) ≡ slackLeft (now (sheet .entry)) place (now (out .entry))) ⌝ }
+    ensures answer { λ r. ⌜ r ≡ slackNumber (now (sheet .entry)) place (now (out .entry)) ⌝ }
+    ensures left { λ _. ⌜ now (out .exit) ≡ slackLeft (now (sheet .entry)) place (now (out .entry)) ⌝ }
 {
     let reading = sheet::read(sheet);
-    if reading.refusal != 0 {
-        return numbers::answer(reading.refusal, 0);
-    }
-    let table = reading.table;
-    let timed = analysis::response_time(table, place);
-    if timed.refusal != 0 {
-        return numbers::answer(timed.refusal, 0);
+    let timed = analysis::response_time(reading.table, place);
+    let refusal = answers::first(reading.refusal, timed.refusal);
+    if refusal != 0 {
+        return answers::answer(refusal, 0);
     }
     if out.len() == 0 {
-        return numbers::answer(11, 0);
+        return answers::answer(11, 0);
     }
     let entry = timed.entry;
     let slack = entry.slack;
-    numbers::answer(0, numbers::put_figure(slack, out))
+    answers::answer(0, outputs::put_figure(slack, out))
 }
 
 // 1 where the sheet passes, 0 where it does not.
@@ -115,32 +110,28 @@ pub extern "C" fn fq_verdict(sheet: &[u8]) -> i64
     ensures { λ r. ⌜ r ≡ verdictNumber (now (sheet .entry)) ⌝ }
 {
     let reading = sheet::read(sheet);
-    if reading.refusal != 0 {
-        return numbers::answer(reading.refusal, 0);
-    }
-    let table = reading.table;
-    let assessment = analysis::assess(table);
-    numbers::answer(assessment.refusal, assessment.passes as usize)
+    let assessment = analysis::assess(reading.table);
+    let refusal = answers::first(reading.refusal, assessment.refusal);
+    answers::answer(refusal, assessment.passes as usize)
 }
 
 // Puts each record's response time, whether its slack has a figure, and the slack into the output: 1 where the sheet passes, 0 where it does not.
 #[no_mangle]
 pub extern "C" fn fq_times(sheet: &[u8], out: &mut [i32]) -> i64
-    ensures { λ r. ⌜ (r ≡ timesNumber (now (sheet .entry)) (now (out .entry))) × (now (out .exit) ≡ timesLeft (now (sheet .entry)) (now (out .entry))) ⌝ }
+    ensures answer { λ r. ⌜ r ≡ timesNumber (now (sheet .entry)) (now (out .entry)) ⌝ }
+    ensures left { λ _. ⌜ now (out .exit) ≡ timesLeft (now (sheet .entry)) (now (out .entry)) ⌝ }
 {
     let reading = sheet::read(sheet);
-    if reading.refusal != 0 {
-        return numbers::answer(reading.refusal, 0);
-    }
     let table = reading.table;
     let count = table.count as usize;
     if out.len() < 3 * count {
-        return numbers::answer(11, 0);
+        return answers::answer(11, 0);
     }
     let assessed = analysis::assess(table);
     let entries = assessed.entries;
-    numbers::put_entries(entries, count, out);
-    numbers::answer(assessed.refusal, assessed.passes as usize)
+    outputs::put_entries(entries, count, out);
+    let refusal = answers::first(reading.refusal, assessed.refusal);
+    answers::answer(refusal, assessed.passes as usize)
 }
 
 // The least interval at which the sheet passes, 0 where there is none.
@@ -149,15 +140,7 @@ pub extern "C" fn fq_least_interval(sheet: &[u8]) -> i64
     ensures { λ r. ⌜ r ≡ intervalNumber (now (sheet .entry)) ⌝ }
 {
     let reading = sheet::read(sheet);
-    if reading.refusal != 0 {
-        return numbers::answer(reading.refusal, 0);
-    }
-    let table = reading.table;
-    match analysis::least_interval(table) {
-        Interval::Refused(refusal) => numbers::answer(refusal, 0),
-        Interval::Least(interval) => numbers::answer(0, interval as usize),
-        Interval::Nothing => numbers::answer(0, 0),
-    }
+    answers::interval_of(reading.refusal, analysis::least_interval(reading.table))
 }
 
 // The next passing choice after another, 0 at the end.
@@ -165,28 +148,16 @@ pub extern "C" fn fq_least_interval(sheet: &[u8]) -> i64
 pub extern "C" fn fq_next(sheet: &[u8], after: u32) -> i64
     ensures { λ r. ⌜ r ≡ nextNumber (now (sheet .entry)) after ⌝ }
 {
-    let reading = sheet::read(sheet);
-    if reading.refusal != 0 {
-        return numbers::answer(reading.refusal, 0);
-    }
-    let table = reading.table;
-    let entries = numbers::entries_of(after);
-    let walk = Walk { entries };
-    numbers::step_of(walk.step(table))
+    choosing::next_by(sheet, after, Rule::Published)
 }
 
 // Writes every passing choice: how many.
 #[no_mangle]
 pub extern "C" fn fq_list(sheet: &[u8], out: &mut [u8]) -> i64
-    ensures { λ r. ⌜ (r ≡ listNumber (now (sheet .entry)) (now (out .entry))) × (now (out .exit) ≡ listLeft (now (sheet .entry)) (now (out .entry))) ⌝ }
+    ensures answer { λ r. ⌜ r ≡ listNumber (now (sheet .entry)) (now (out .entry)) ⌝ }
+    ensures left { λ _. ⌜ now (out .exit) ≡ listLeft (now (sheet .entry)) (now (out .entry)) ⌝ }
 {
-    let reading = sheet::read(sheet);
-    if reading.refusal != 0 {
-        return numbers::answer(reading.refusal, 0);
-    }
-    let table = reading.table;
-    let listing = choices::list(table, out);
-    numbers::answer(listing.refusal, listing.entries)
+    choosing::list_by(sheet, out, Rule::Published)
 }
 
 // The assured time of the record at a place, 0 where it has none.
@@ -195,14 +166,11 @@ pub extern "C" fn fq_assured_response(sheet: &[u8], place: usize) -> i64
     ensures { λ r. ⌜ r ≡ assuredNumber (now (sheet .entry)) place ⌝ }
 {
     let reading = sheet::read(sheet);
-    if reading.refusal != 0 {
-        return numbers::answer(reading.refusal, 0);
-    }
-    let table = reading.table;
-    let within = assured::assured_time(table, place);
+    let within = assured::assured_time(reading.table, place);
+    let refusal = answers::first(reading.refusal, within.refusal);
     let entry = within.entry;
     let outcome = entry.outcome;
-    numbers::answer(within.refusal, numbers::time_of(outcome))
+    answers::answer(refusal, answers::time_of(outcome))
 }
 
 // The next assured choice after another, 0 at the end.
@@ -210,45 +178,34 @@ pub extern "C" fn fq_assured_response(sheet: &[u8], place: usize) -> i64
 pub extern "C" fn fq_assured_next(sheet: &[u8], after: u32) -> i64
     ensures { λ r. ⌜ r ≡ assuredNextNumber (now (sheet .entry)) after ⌝ }
 {
-    let reading = sheet::read(sheet);
-    if reading.refusal != 0 {
-        return numbers::answer(reading.refusal, 0);
-    }
-    let table = reading.table;
-    let start = numbers::entries_of(after);
-    let walk = Walk { entries: start };
-    numbers::step_of(assured::step(table, walk))
+    choosing::next_by(sheet, after, Rule::Assured)
 }
 
 // Writes every assured choice: how many.
 #[no_mangle]
 pub extern "C" fn fq_assured_list(sheet: &[u8], out: &mut [u8]) -> i64
-    ensures { λ r. ⌜ (r ≡ assuredListNumber (now (sheet .entry)) (now (out .entry))) × (now (out .exit) ≡ assuredListLeft (now (sheet .entry)) (now (out .entry))) ⌝ }
+    ensures answer { λ r. ⌜ r ≡ assuredListNumber (now (sheet .entry)) (now (out .entry)) ⌝ }
+    ensures left { λ _. ⌜ now (out .exit) ≡ assuredListLeft (now (sheet .entry)) (now (out .entry)) ⌝ }
 {
-    let reading = sheet::read(sheet);
-    if reading.refusal != 0 {
-        return numbers::answer(reading.refusal, 0);
-    }
-    let table = reading.table;
-    let listed = assured::list(table, out);
-    numbers::answer(listed.refusal, listed.entries)
+    choosing::list_by(sheet, out, Rule::Assured)
 }
 
 // Replays a log: 0, with its seven counts at the start of the output.
 #[no_mangle]
 pub extern "C" fn fq_replay(sheet: &[u8], log: &[u8], counts: &mut [u64]) -> i64
-    ensures { λ r. ⌜ (r ≡ replayNumber (now (sheet .entry)) (now (log .entry)) (now (counts .entry))) × (now (counts .exit) ≡ replayLeft (now (sheet .entry)) (now (log .entry)) (now (counts .entry))) ⌝ }
+    ensures answer { λ r. ⌜ r ≡ replayNumber (now (sheet .entry)) (now (log .entry)) (now (counts .entry)) ⌝ }
+    ensures left { λ _. ⌜ now (counts .exit) ≡ replayLeft (now (sheet .entry)) (now (log .entry)) (now (counts .entry)) ⌝ }
 {
     let replayed = replay::replay(sheet, log);
     if replayed.refusal != 0 {
-        return numbers::answer(replayed.refusal, 0);
+        return answers::answer(replayed.refusal, 0);
     }
     if counts.len() < 7 {
-        return numbers::answer(11, 0);
+        return answers::answer(11, 0);
     }
     let counted = replayed.counts;
-    numbers::put_counts(counted, counts);
-    numbers::answer(0, 0)
+    outputs::put_counts(counted, counts);
+    answers::answer(0, 0)
 }
 
 // Checks a supplier's record: how many ticks from its start show what the rules say, all of them where it is accepted.
@@ -257,9 +214,9 @@ pub extern "C" fn fq_check(sheet: &[u8], supplied: &[u8]) -> i64
     ensures { λ r. ⌜ r ≡ checkNumber (now (sheet .entry)) (now (supplied .entry)) ⌝ }
 {
     match replay::check(sheet, supplied) {
-        Checked::Refused(refusal) => numbers::answer(refusal, 0),
-        Checked::Accepted => numbers::answer(0, supplied.len() / 3),
-        Checked::Differs(tick) => numbers::answer(0, tick as usize),
+        Checked::Refused(refusal) => answers::answer(refusal, 0),
+        Checked::Accepted => answers::answer(0, supplied.len() / 3),
+        Checked::Differs(tick) => answers::answer(0, tick as usize),
     }
 }
 
@@ -277,7 +234,8 @@ pub extern "C" fn fq_grant(
     length: u32,
     margin: &mut [i64],
 ) -> i64
-    ensures { λ r. ⌜ (r ≡ lockNumber (grantingOf period count (now (starts .entry)) (now (uses .entry)) (now (resources .entry)) (givenRequest priority time resource length)) (now (margin .entry))) × (now (margin .exit) ≡ lockLeft (grantingOf period count (now (starts .entry)) (now (uses .entry)) (now (resources .entry)) (givenRequest priority time resource length)) (now (margin .entry))) ⌝ }
+    ensures answer { λ r. ⌜ r ≡ lockNumber (grantingOf period count (now (starts .entry)) (now (uses .entry)) (now (resources .entry)) (givenRequest priority time resource length)) (now (margin .entry)) ⌝ }
+    ensures left { λ _. ⌜ now (margin .exit) ≡ lockLeft (grantingOf period count (now (starts .entry)) (now (uses .entry)) (now (resources .entry)) (givenRequest priority time resource length)) (now (margin .entry)) ⌝ }
 {
     let request = Request {
         priority,
@@ -291,57 +249,60 @@ pub extern "C" fn fq_grant(
         request,
     );
     if granting.refusal != 0 {
-        return numbers::answer(granting.refusal, 0);
+        return answers::answer(granting.refusal, 0);
     }
     if margin.len() == 0 {
-        return numbers::answer(11, 0);
+        return answers::answer(11, 0);
     }
-    locking::put_margin(granting.margin, margin);
-    numbers::answer(0, granting.granted as usize)
+    outputs::put_margin(granting.margin, margin);
+    answers::answer(0, granting.granted as usize)
 }
 
 // Mends a sheet: how many bytes of it were written, with the number of changes and four numbers for each in the second output.
 #[no_mangle]
 pub extern "C" fn fq_mend(sheet: &[u8], out: &mut [u8], changes: &mut [u64]) -> i64
-    ensures { λ r. ⌜ (r ≡ mendNumber (now (sheet .entry)) (now (out .entry)) (now (changes .entry))) × (now (out .exit) ≡ mendLeft (now (sheet .entry)) (now (out .entry)) (now (changes .entry))) × (now (changes .exit) ≡ mendListed (now (sheet .entry)) (now (out .entry)) (now (changes .entry))) ⌝ }
+    ensures answer { λ r. ⌜ r ≡ mendNumber (now (sheet .entry)) (now (out .entry)) (now (changes .entry)) ⌝ }
+    ensures left { λ _. ⌜ now (out .exit) ≡ mendLeft (now (sheet .entry)) (now (out .entry)) (now (changes .entry)) ⌝ }
+    ensures listed { λ _. ⌜ now (changes .exit) ≡ mendListed (now (sheet .entry)) (now (out .entry)) (now (changes .entry)) ⌝ }
 {
     let mut longest = [0u8; 79];
     let mending = mend::mend(sheet, &mut longest);
     if mending.refusal != 0 {
-        return numbers::answer(mending.refusal, 0);
+        return answers::answer(mending.refusal, 0);
     }
     let size = mending.written;
     if out.len() < size {
-        return numbers::answer(11, 0);
+        return answers::answer(11, 0);
     }
     let listed = mending.changes;
     if changes.len() < 1 + 4 * listed.count as usize {
-        return numbers::answer(11, 0);
+        return answers::answer(11, 0);
     }
     let list = listed.list;
     bytes::copy(&longest[..size], out);
-    numbers::put_changes(list, listed.count, changes);
-    numbers::answer(0, size)
+    outputs::put_changes(list, listed.count, changes);
+    answers::answer(0, size)
 }
 
 // Puts each record on a core: 0, with each record's core from 1 at the start of the output, or the first record from 1 that fits none.
 #[no_mangle]
 pub extern "C" fn fq_cores(sheet: &[u8], number: u8, out: &mut [u8]) -> i64
-    ensures { λ r. ⌜ (r ≡ coresNumber (now (sheet .entry)) number (now (out .entry))) × (now (out .exit) ≡ coresLeft (now (sheet .entry)) number (now (out .entry))) ⌝ }
+    ensures answer { λ r. ⌜ r ≡ coresNumber (now (sheet .entry)) number (now (out .entry)) ⌝ }
+    ensures left { λ _. ⌜ now (out .exit) ≡ coresLeft (now (sheet .entry)) number (now (out .entry)) ⌝ }
 {
     let placing = cores::place(sheet, number);
     let fit = placing.fit;
     match fit {
-        Fit::Refused(refusal) => numbers::answer(refusal, 0),
-        Fit::FitsNone(first) => numbers::answer(0, first as usize),
+        Fit::Refused(refusal) => answers::answer(refusal, 0),
+        Fit::FitsNone(first) => answers::answer(0, first as usize),
         Fit::Everyone => {
             let given = placing.cores;
-            let count = numbers::count(sheet);
+            let count = given::count(sheet);
             if out.len() < count {
-                return numbers::answer(11, 0);
+                return answers::answer(11, 0);
             }
-            numbers::put_cores(given, count, out);
-            numbers::answer(0, 0)
+            outputs::put_cores(given, count, out);
+            answers::answer(0, 0)
         }
     }
 }
@@ -352,5 +313,5 @@ pub extern "C" fn fq_release(in_use: &[u8], candidate: &[u8], protected_places: 
     ensures { λ r. ⌜ r ≡ releaseNumber (now («in_use» .entry)) (now (candidate .entry)) «protected_places» ⌝ }
 {
     let decision = release::decide(in_use, candidate, protected_places);
-    numbers::answer(decision.refusal, decision.loads as usize)
+    answers::answer(decision.refusal, decision.loads as usize)
 }

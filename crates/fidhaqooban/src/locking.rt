@@ -1,7 +1,6 @@
-// Start tables, resources and margins as the numbers of C.
+// Start tables and resources given as the numbers of C.
 ghost use mathlib.Core.Path.{_≡_};
-ghost use Prim.Native.Nat.{_≤_, _<_};
-ghost use lib.ListN.{length, set};
+ghost use Prim.Native.Nat.{_<_};
 ghost use Rattle.fidhaqooban.specs.Numbers.{numberAt};
 ghost use Rattle.fidhaqooban.specs.Locking.{givenJob, givenStarts, givenResource, givenResources};
 use locks::Job;
@@ -81,12 +80,4 @@ pub fn resources(numbers: &[u8]) -> [Resource; 8]
         number += 1;
     }
     resources
-}
-
-// Puts a margin into an output that has room.
-pub fn put_margin(margin: i64, out: &mut [i64])
-    requires { ⌜ 1 ≤ length (now out) ⌝ }
-    ensures { λ _. ⌜ now (out .exit) ≡ set (now (out .entry)) 0 margin ⌝ }
-{
-    out[0] = margin;
 }

@@ -5,9 +5,9 @@ use crate::links;
 use crate::opened;
 use crate::opened::File;
 use libc::STDOUT_FILENO;
+use streams::endings;
 use streams::input;
 use streams::parts;
-use streams::standing;
 use streams::words;
 
 // How long the name of a file may be that another is written beside.
@@ -133,7 +133,7 @@ fn is_printed(bytes: &[u8]) -> bool {
     if io::write_all(STDOUT_FILENO, bytes) {
         return true;
     }
-    standing::failed();
+    endings::failed();
     false
 }
 

@@ -1,6 +1,8 @@
 // A refusal in words, on standard error.
+ghost use mathlib.Core.Path.{_≡_};
+ghost use Prim.Native.Nat.{_+_};
+ghost use Rattle.sheet.specs.Rules.{brokenPlace};
 use libc::STDERR_FILENO;
-use sheet::Record;
 use sheet::Table;
 
 // Writes a part of the line.
@@ -57,45 +59,11 @@ fn say_text_rule(refusal: u8) {
     }
 }
 
-// A record that breaks rule 6, or rule 7 where a sheet was refused with 6.
-fn bad_record(refusal: u8) -> Record {
-    Record {
-        cost: (refusal == 6) as u16,
-        backup: 0,
-        deadline: 1,
-        period: 1,
-        priority: 1,
-        fault_priority: 1,
-    }
-}
-
-// The table with such a record at a place.
-fn spoilt(table: Table, place: usize, refusal: u8) -> Table {
-    let mut records = table.records;
-    if place < 8 {
-        records[place] = bad_record(refusal);
-    }
-    Table {
-        count: table.count,
-        interval: table.interval,
-        round: table.round,
-        share: table.share,
-        records,
-    }
-}
-
-// Whether the table's refusal changes when the record at a place breaks another rule: it does up to the first bad record.
-fn changes(table: Table, place: usize, refusal: u8) -> bool {
-    sheet::judge_table(spoilt(table, place, refusal)) != refusal
-}
-
-// The place, from 1, of the record that broke the rule: how many records from the first on change the refusal.
-fn place(table: Table, refusal: u8) -> u64 {
-    let mut place: u64 = 0;
-    while place < 8 && changes(table, place as usize, refusal) {
-        place += 1;
-    }
-    place
+// The place, from 1, of the record that breaks the rule that a table is refused for.
+fn number(table: Table) -> u64
+    ensures { λ r. ⌜ r ≡ brokenPlace table + 1 ⌝ }
+{
+    sheet::judge_table_at(table).place as u64 + 1
 }
 
 // Prints the sentence of a rule.
@@ -111,7 +79,7 @@ pub fn print_of(called: &[u8], table: Table, refusal: u8) {
     say(called);
     if (6 <= refusal) & (refusal <= 10) {
         say(b"record ");
-        io::print_decimal(STDERR_FILENO, place(table, refusal));
+        io::print_decimal(STDERR_FILENO, number(table));
         say(b": ");
     }
     say_rule(refusal);

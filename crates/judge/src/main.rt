@@ -2,7 +2,7 @@
 // Its first argument may ask for more, as the desk's may: `status` for how it ended, as a digit on descriptor 3, and `explain` for that and
 // for a refusal in words on standard error.
 use console::judging;
-use streams::standing;
+use streams::endings;
 use streams::words;
 
 // Whether the argument at a place is the word `judge`.
@@ -21,6 +21,6 @@ fn run(first: u8, is_explained: bool) -> u8 {
 }
 
 fn main() {
-    let word = standing::asked();
-    standing::tell(word, run(standing::first(word), word == standing::EXPLAIN));
+    let word = endings::asked();
+    endings::tell(word, run(endings::first(word), word == endings::EXPLAIN));
 }

@@ -1,6 +1,6 @@
 -- The answer case by case: refused, not critical, critical. Assumes nothing.
-use mathlib.Core.Path.{_≡_, refl}
-use mathlib.Core.Bool.{Bool, true, false, not, _&&_}
+use mathlib.Core.Path.{_≡_}
+use mathlib.Core.Bool.{true, false, not, _&&_, and-true}
 use mathlib.Core.List.{List}
 use borrow.Author.Tests.{ne-eqb}
 use lib.Dec.{leb}
@@ -13,10 +13,6 @@ use Rattle.locks.specs.Ceilings.{barred}
 use Rattle.locks.specs.Free.{freeTime}
 use Rattle.locks.specs.Rules.{grantRefusal}
 use Rattle.locks.specs.Answers.{fits, isGranted, marginOf, grantAnswer}
-
-and-true : (b : Bool) → (b && true) ≡ b
-and-true true = refl
-and-true false = refl
 
 module _ (s : Starts) (resources : List Resource) (request : Request) where
   pub answer-refused : (grantRefusal s resources request ≡ 0 → ⊥) → grantAnswer s resources request ≡ record { refusal = grantRefusal s resources request; granted = false; margin = pos 0 }

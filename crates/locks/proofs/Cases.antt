@@ -5,8 +5,8 @@ use mathlib.Core.Bool.{true, false, cond}
 use mathlib.Core.List.{List}
 use borrow.Author.Tests.{ltb-false}
 use lib.Dec.{ltb}
-use Rattle.sheet.proofs.Cases.{passed}
-use Rattle.sheet.proofs.Editions.{neither}
+use Rattle.places.proofs.Tells.{neither}
+use Rattle.places.proofs.Refusals.{passed}
 use Rattle.locks.specs.declared.Starts.{Starts}
 use Rattle.locks.specs.declared.Resource.{Resource}
 use Rattle.locks.specs.declared.Request.{Request}

@@ -8,7 +8,7 @@ use native.Mathlib.Decide.{decLt, decLe}
 use native.Mathlib.Omega.{arith}
 use borrow.Author.Tests.{le-leb, lt-leb}
 use lib.Dec.{leb}
-use Rattle.sheet.proofs.Tells.{denied, tells-iff, tells-same}
+use Rattle.places.proofs.Tells.{denied, tells-iff, tells-same}
 use Rattle.locks.specs.Jobs.{within}
 use Rattle.locks.specs.Distances.{distance}
 use Rattle.locks.proofs.Given.{within-tells}

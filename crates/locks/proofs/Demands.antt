@@ -1,4 +1,4 @@
--- Ask 9's demands in its own words, about the definitions. That the refusals are given in its order is `grant-in-order` of Order.antt, its example Rows.antt, and that the jobs' order plays no part `order-no-part` of Rearranged.antt. Assumes nothing.
+-- Request 9's demands in its own words, about the definitions. That the refusals are given in its order is `grant-in-order` of Order.antt, its example Rows.antt, and that the jobs' order plays no part `order-no-part` of Rearranged.antt. Assumes nothing.
 use Prim.Native.Nat.{ℕ, suc, _+_, _-_, _/_, _%_, _≤_, _<_}
 use mathlib.Core.Path.{_≡_, refl, sym, ap, _∙_}
 use mathlib.Core.Bool.{Bool, true, false, cond, not, _&&_, true≢false}
@@ -8,14 +8,18 @@ use native.Mathlib.Nat.{add-mod-right, add-div-right, le-div-iff-mul-le, div-mul
 use native.Mathlib.Decide.{decLe}
 use native.Mathlib.Omega.{arith}
 use lib.IntN.{pos, negsuc, _-ℤ_}
-use Rattle.sheet.proofs.Difference.{difference-left, difference-missing}
-use Rattle.sheet.proofs.Tells.{Tells, holds, fails, told, shown, unshown, tells-iff, leb-tells, eqb-tells, not-tells, or-tells, and-tells, some-tells}
-use Rattle.sheet.proofs.Refused.{tests}
+use Rattle.places.specs.Places.{countBelow, highestBelow}
+use Rattle.places.specs.Search.{firstFrom}
+use Rattle.places.proofs.Tells.{Tells, holds, fails, told, shown, unshown, tells-iff, leb-tells, eqb-tells, not-tells, or-tells, and-tells, tests}
+use Rattle.places.proofs.Some.{some-tells}
+use Rattle.places.proofs.Counted.{count-reaches}
+use Rattle.places.proofs.Largest.{highest-low, highest-one}
+use Rattle.places.proofs.Search.{Fails, first-some}
+use Rattle.places.proofs.Difference.{difference-left, difference-missing}
 use Rattle.locks.specs.declared.Starts.{Starts}
 use Rattle.locks.specs.declared.Resource.{Resource}
 use Rattle.locks.specs.declared.Request.{Request}
 use Rattle.locks.specs.declared.Granting.{Granting}
-use Rattle.locks.specs.Counting.{countBelow, firstFrom, highestBelow}
 use Rattle.locks.specs.Bits.{hasBit, highestUser}
 use Rattle.locks.specs.Jobs.{jobAt, someJob, within, runs, busy, isCritical, startsAt}
 use Rattle.locks.specs.Ceilings.{resourceAt, ceilingOf, ceiling, heldByAnother, bars, barred}
@@ -26,8 +30,6 @@ use Rattle.locks.specs.Broken.{User}
 use Rattle.locks.specs.Distances.{nearest, between}
 use Rattle.locks.proofs.Given.{GoodStarts, good-starts, within-tells}
 use Rattle.locks.proofs.Cycle.{comes-round}
-use Rattle.locks.proofs.Ticks.{count-reaches}
-use Rattle.locks.proofs.Closest.{first-from, first-none, first-some, highest-low, highest-one}
 use Rattle.locks.proofs.Tied.{job-tells, starts-at-tells, near-low, near-inside, next-tied, free-tied, runs-at}
 use Rattle.locks.proofs.Cases.{accepted}
 use Rattle.locks.proofs.Answered.{answer-refused, answer-plain, answer-critical}
@@ -139,10 +141,10 @@ pub next-exactly : (s : Starts) → GoodStarts s → (resource time : ℕ) → C
 unfolding nextStart
 next-exactly s good resource time used =
     record {
-      later = omega (arith, first-from test (time + 1) (s .period));
-      soon = period-of (firstFrom test (time + 1) (s .period)) (first-from test (time + 1) (s .period)) (omega (arith, found .0, round .2));
-      starts = told (starts-at-tells s resource (firstFrom test (time + 1) (s .period))) (found .1);
-      first = λ x low high place below uses at. true≢false (sym (shown (starts-at-tells s resource x) (place, below, (uses, at))) ∙ first-none test (time + 1) (s .period) x (omega arith) high);
+      later = omega (arith, found .0);
+      soon = period-of (firstFrom test (time + 1) (s .period)) (found .0) (omega (arith, found .1, round .2));
+      starts = told (starts-at-tells s resource (firstFrom test (time + 1) (s .period))) (found .2);
+      first = λ x low high place below uses at. true≢false (sym (shown (starts-at-tells s resource x) (place, below, (uses, at))) ∙ found .3 x (omega arith) high);
     }
   where
     test : ℕ → Bool
@@ -151,8 +153,8 @@ next-exactly s good resource time used =
     round : (k : ℕ) × (0 < k) × (k ≤ s .period) × ((time + k) % s .period ≡ jobAt (s .jobs) (used .0) .offset)
     round = comes-round (s .period) time (jobAt (s .jobs) (used .0) .offset) (omega (arith, good .inside (used .0) (used .1), good .long (used .0) (used .1)))
 
-    found : (firstFrom test (time + 1) (s .period) ≤ time + round .0) × (test (firstFrom test (time + 1) (s .period)) ≡ true)
-    found = first-some test (time + 1) (s .period) (time + round .0) (omega (arith, round .1)) (omega (arith, round .2)) (shown (starts-at-tells s resource (time + round .0)) (used .0, used .1, (used .2, round .3)))
+    found : (time + 1 ≤ firstFrom test (time + 1) (s .period)) × (firstFrom test (time + 1) (s .period) ≤ time + round .0) × (test (firstFrom test (time + 1) (s .period)) ≡ true) × Fails test (time + 1) (firstFrom test (time + 1) (s .period))
+    found = first-some test (s .period) (time + 1) (time + round .0) (omega (arith, round .1)) (omega (arith, round .2)) (shown (starts-at-tells s resource (time + round .0)) (used .0, used .1, (used .2, round .3)))
 
     period-of : (start : ℕ) → time + 1 ≤ start → start ≤ time + s .period → (start / s .period ≡ time / s .period) ⊎ (start / s .period ≡ time / s .period + 1)
     period-of start low high = go (decLe (start / s .period) (time / s .period))

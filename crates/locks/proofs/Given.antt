@@ -5,7 +5,8 @@ use mathlib.Core.Bool.{false}
 use mathlib.Core.Logic.{_⊎_, inl, inr}
 use native.Mathlib.Decide.{decLt}
 use native.Mathlib.Omega.{arith}
-use Rattle.sheet.proofs.Tells.{Tells, denied, ltb-tells, leb-tells, eqb-tells, or-tells, and-tells, some-tells}
+use Rattle.places.proofs.Tells.{Tells, denied, ltb-tells, leb-tells, eqb-tells, or-tells, and-tells}
+use Rattle.places.proofs.Some.{some-tells}
 use Rattle.locks.specs.declared.Job.{Job}
 use Rattle.locks.specs.declared.Starts.{Starts}
 use Rattle.locks.specs.Jobs.{jobAt, within}

@@ -1,9 +1,7 @@
--- Laws that belong to no one function: loops; good tables; one job over the ticks; counting ticks; the free time; refusals; the demands.
-pub mod Turns
+-- Laws that belong to no one function: good tables; one job over the ticks; counting ticks; the free time; refusals; the demands.
 pub mod Given
 pub mod Cycle
 pub mod Ticks
-pub mod Closest
 pub mod Tied
 pub mod Cases
 pub mod Answered

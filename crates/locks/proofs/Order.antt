@@ -8,11 +8,11 @@ use native.Mathlib.Nat.{div-add-mod'}
 use native.Mathlib.Omega.{arith}
 use lib.Arith.{digits-mod}
 use lib.Dec.{eqb, ltb}
-use Rattle.sheet.specs.Places.{someBelow}
-use Rattle.sheet.specs.Broken.{InOrder}
-use Rattle.sheet.proofs.Tells.{Tells, tells-iff, tells-same, ltb-tells, leb-tells, eqb-tells, not-tells, or-tells, and-tells, some-tells}
-use Rattle.sheet.proofs.Order.{Says, says-none, says-row, in-order}
-use Rattle.sheet.proofs.Refused.{tests}
+use Rattle.places.specs.Places.{someBelow}
+use Rattle.places.specs.Refusals.{InOrder}
+use Rattle.places.proofs.Tells.{Tells, tells-iff, ltb-tells, leb-tells, eqb-tells, not-tells, or-tells, and-tells, tests}
+use Rattle.places.proofs.Some.{some-tells, some-either}
+use Rattle.places.proofs.Order.{Says, says-none, says-row, in-order}
 use Rattle.locks.specs.declared.Job.{Job}
 use Rattle.locks.specs.declared.Starts.{Starts}
 use Rattle.locks.specs.declared.Resource.{Resource}
@@ -42,18 +42,6 @@ user-tells users priority =
 -- two jobs that have a length overlap exactly if some tick lies in both
 common-tick : (a b : Job) → (a .length ≡ 0 → ⊥) → (b .length ≡ 0 → ⊥) → Overlap a b ↔ ((tick : ℕ) × Covers 0 a tick × Covers 0 b tick)
 common-tick a b long long′ = (λ h. (max (a .offset) (b .offset), (omega arith, omega arith), (omega arith, omega arith)), λ w. (omega (arith, w .1, w .2), omega (arith, w .1, w .2)))
-
--- some place has one of two things exactly if some place has the one or some the other
-some-either : (f g : ℕ → Bool) (n : ℕ) → someBelow (λ k. f k || g k) n ≡ (someBelow f n || someBelow g n)
-some-either f g n =
-    tells-same (tells-iff apart joined (some-tells (λ k. or-tells (tests (f k)) (tests (g k))) n)) (or-tells (some-tells (λ k. tests (f k)) n) (some-tells (λ k. tests (g k)) n))
-  where
-    apart : (k : ℕ) × (k < n) × ((f k ≡ true) ⊎ (g k ≡ true)) → ((k : ℕ) × (k < n) × (f k ≡ true)) ⊎ ((k : ℕ) × (k < n) × (g k ≡ true))
-    apart w = ⊎-elim (λ h. inl (w .0, w .1, h)) (λ h. inr (w .0, w .1, h)) (w .2)
-
-    joined : ((k : ℕ) × (k < n) × (f k ≡ true)) ⊎ ((k : ℕ) × (k < n) × (g k ≡ true)) → (k : ℕ) × (k < n) × ((f k ≡ true) ⊎ (g k ≡ true))
-    joined (inl w) = (w .0, w .1, inl (w .2))
-    joined (inr w) = (w .0, w .1, inr (w .2))
 
 -- two tests for one number are tried one after the other
 one-number : (a b : Bool) (number r : ℕ) → cond (a || b) number r ≡ cond a number (cond b number r)

@@ -8,14 +8,13 @@ use native.Mathlib.Decide.{decLt}
 use native.Mathlib.Omega.{arith}
 use lib.Dec.{eqb, leb}
 use lib.IntN.{pos, _-ℤ_}
-use Rattle.sheet.specs.Places.{someBelow}
-use Rattle.sheet.proofs.Tells.{tells-iff, tells-same}
-use Rattle.sheet.proofs.Refused.{tests}
+use Rattle.places.specs.Places.{someBelow, countBelow}
+use Rattle.places.specs.Search.{firstFrom}
+use Rattle.places.proofs.Tells.{tells-iff, tells-same, tests}
 use Rattle.locks.specs.declared.Job.{Job}
 use Rattle.locks.specs.declared.Starts.{Starts}
 use Rattle.locks.specs.declared.Resource.{Resource}
 use Rattle.locks.specs.declared.Request.{Request}
-use Rattle.locks.specs.Counting.{countBelow, firstFrom}
 use Rattle.locks.specs.Bits.{hasBit}
 use Rattle.locks.specs.Jobs.{jobAt, someJob, runs, busy, isCritical, startsAt}
 use Rattle.locks.specs.Ceilings.{resourceAt, bars, barred}

@@ -1,15 +1,15 @@
--- The ask's example, by computation: "With period 40, starts at 5 for 6 and at 20 for 3, and the resource used by the second only, a request at 3 has 11 free: length 11 is granted, 12 is not." Assumes nothing.
+-- The request's example, by computation: "With period 40, starts at 5 for 6 and at 20 for 3, and the resource used by the second only, a request at 3 has 11 free: length 11 is granted, 12 is not." Assumes nothing.
 use Prim.Native.Nat.{ℕ}
 use mathlib.Core.Path.{_≡_, refl}
 use mathlib.Core.Bool.{true, false}
 use mathlib.Core.List.{List, _∷_}
 use lib.IntN.{pos, negsuc}
 use lib.ListN.{replicate}
-use Rattle.sheet.specs.Places.{someBelow}
+use Rattle.places.specs.Places.{someBelow, oneIf, countBelow, highestBelow}
+use Rattle.places.specs.Search.{firstFrom}
 use Rattle.locks.specs.declared.Starts.{Starts}
 use Rattle.locks.specs.declared.Resource.{Resource}
 use Rattle.locks.specs.declared.Request.{Request}
-use Rattle.locks.specs.Counting.{oneIf, countBelow, firstFrom, highestBelow}
 use Rattle.locks.specs.Bits.{hasBit, isUser, highestUser}
 use Rattle.locks.specs.Jobs.{noJob, jobAt, someJob, within, runs, busy, isCritical, startsAt}
 use Rattle.locks.specs.Ceilings.{resourceAt, ceilingOf, heldByAnother, bars, barred}

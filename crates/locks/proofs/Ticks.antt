@@ -1,71 +1,18 @@
 -- Counting ticks: those that are free and those that are taken, over any starts and lengths that take no tick twice. Assumes nothing.
 use Prim.Native.Nat.{ℕ, zero, suc, _+_, _-_, _≤_, _<_, min}
-use mathlib.Core.Path.{_≡_, refl, sym, ap, ap₂, _∙_}
-use mathlib.Core.Bool.{Bool, true, false, cond, not, _||_}
+use mathlib.Core.Path.{_≡_, refl, sym, ap, _∙_}
+use mathlib.Core.Bool.{Bool, true, false, cond, not}
 use native.Mathlib.Decide.{decLt, decLe}
 use native.Mathlib.Omega.{arith}
 use borrow.Author.Tests.{lt-ltb, le-ltb}
 use lib.Dec.{ltb}
-use Rattle.sheet.specs.Places.{someBelow}
-use Rattle.sheet.proofs.Tells.{Tells, holds, fails, told, shown, some-tells}
-use Rattle.sheet.proofs.Refused.{tests}
-use Rattle.locks.specs.Counting.{oneIf, countBelow}
+use Rattle.places.specs.Places.{someBelow, oneIf, countBelow, sumBelow}
+use Rattle.places.proofs.Tells.{Tells, holds, fails, shown}
+use Rattle.places.proofs.Agree.{sum-agree}
+use Rattle.places.proofs.Counted.{count-single}
+use Rattle.places.proofs.Summed.{sum-none, sum-counted}
 use Rattle.locks.specs.Jobs.{within}
-use Rattle.locks.specs.Distances.{sumBelow}
 use Rattle.locks.proofs.Given.{within-tells}
-
-module _ {f g : ℕ → ℕ} where
-  pub sum-agree : (n : ℕ) → ((k : ℕ) → k < n → f k ≡ g k) → sumBelow f n ≡ sumBelow g n
-  unfolding sumBelow
-  sum-agree zero same = refl
-  sum-agree (suc n) same = ap₂ _+_ (sum-agree n (λ k below. same k (omega arith))) (same n (omega arith))
-
-pub count-agree : {f g : ℕ → Bool} (n : ℕ) → ((k : ℕ) → k < n → f k ≡ g k) → countBelow f n ≡ countBelow g n
-unfolding countBelow
-count-agree zero same = refl
-count-agree (suc n) same = ap₂ (λ (a : ℕ) (b : Bool). a + oneIf b) (count-agree n (λ k below. same k (omega arith))) (same n (omega arith))
-
-one-at-most : (b : Bool) → oneIf b ≤ 1
-unfolding oneIf
-one-at-most true = omega arith
-one-at-most false = omega arith
-
--- ticks are counted one by one, so every number up to a count is reached
-pub count-reaches : (test : ℕ → Bool) (n target : ℕ) → target ≤ countBelow test n → (m : ℕ) × (m ≤ n) × (countBelow test m ≡ target)
-unfolding countBelow
-count-reaches test zero target low = (0, omega arith, omega arith)
-count-reaches test (suc n) target low = go (decLe target (countBelow test n)) (count-reaches test n target)
-  where
-    go : Dec (target ≤ countBelow test n) → (target ≤ countBelow test n → (m : ℕ) × (m ≤ n) × (countBelow test m ≡ target)) → (m : ℕ) × (m ≤ suc n) × (countBelow test m ≡ target)
-    go (yes h) rest =
-        let w = rest h in
-        (w .0, omega (arith, w .1), w .2)
-    go (no h) rest = (suc n, omega arith, omega (arith, low, one-at-most (test n)))
-
-sum-nothing : (f : ℕ → ℕ) (n : ℕ) → ((k : ℕ) → f k ≡ 0) → sumBelow f n ≡ 0
-unfolding sumBelow
-sum-nothing f zero none = refl
-sum-nothing f (suc n) none = omega (arith, sum-nothing f n none, none n)
-
--- a sum that grows by one at some places grows by as many as they are
-sum-grows : (f g : ℕ → ℕ) (test : ℕ → Bool) (n : ℕ) → ((k : ℕ) → g k ≡ f k + oneIf (test k)) → sumBelow g n ≡ sumBelow f n + countBelow test n
-unfolding sumBelow countBelow
-sum-grows f g test zero each = refl
-sum-grows f g test (suc n) each = omega (arith, sum-grows f g test n each, each n)
-
--- where no two places pass a test it counts 1 or 0: whether some place passes it
-count-single : (test : ℕ → Bool) (n : ℕ) → ((j k : ℕ) → j < n → k < n → test j ≡ true → test k ≡ true → j ≡ k) → countBelow test n ≡ oneIf (someBelow test n)
-unfolding countBelow someBelow oneIf
-count-single test zero single = refl
-count-single test (suc n) single =
-    ap (λ (a : ℕ). a + oneIf (test n)) (count-single test n (λ j k low high. single j k (omega arith) (omega arith)))
-    ∙ go (someBelow test n) (test n) (λ some here. let w = told (some-tells (λ k. tests (test k)) n) some in omega (arith, w .1, single (w .0) n (omega (arith, w .1)) (omega arith) (w .2) here))
-  where
-    go : (a b : Bool) → (a ≡ true → b ≡ true → ⊥) → oneIf a + oneIf b ≡ oneIf (a || b)
-    go true true both = absurd (both refl refl)
-    go true false both = refl
-    go false true both = refl
-    go false false both = refl
 
 -- each tick is free or is not
 one-or-other : (b : Bool) → oneIf (not b) + oneIf b ≡ 1
@@ -95,9 +42,9 @@ module _ (start long : ℕ → ℕ) (n : ℕ) where
     -- the free ticks below m and what the jobs run below m are m together
     pub free-and-taken : (m : ℕ) → countBelow (λ tick. not (taken tick)) m + sumBelow (λ k. min (long k) (m - start k)) n ≡ m
     unfolding countBelow
-    free-and-taken zero = omega (arith, sum-nothing (λ k. min (long k) (0 - start k)) n (λ k. omega arith))
+    free-and-taken zero = omega (arith, sum-none (λ k. min (long k) (0 - start k)) n (λ k below. omega arith))
     free-and-taken (suc m) =
-        let more = sum-grows (λ k. min (long k) (m - start k)) (λ k. min (long k) (suc m - start k)) (λ k. within (start k) (long k) m) n (λ k. run-more (start k) (long k) m) in
+        let more = sum-counted (λ k. min (long k) (m - start k)) (λ k. min (long k) (suc m - start k)) (λ k. within (start k) (long k) m) n (λ k. run-more (start k) (long k) m) in
         let one = count-single (λ k. within (start k) (long k) m) n (apart m) in
         omega (arith, free-and-taken m, more, one, one-or-other (taken m))
 

@@ -6,21 +6,22 @@ use mathlib.Core.Logic.{_⊎_, ⊎-elim}
 use mathlib.Core.List.{List}
 use native.Mathlib.Omega.{arith}
 use lib.Dec.{ltb}
-use Rattle.sheet.specs.Places.{someBelow}
-use Rattle.sheet.proofs.Agree.{some-agree}
-use Rattle.sheet.proofs.Tells.{Tells, told, denied, shown, eqb-tells, and-tells, some-tells}
-use Rattle.sheet.proofs.Refused.{tests}
+use Rattle.places.specs.Places.{someBelow, countBelow, sumBelow}
+use Rattle.places.specs.Search.{firstFrom}
+use Rattle.places.proofs.Tells.{Tells, told, denied, shown, eqb-tells, and-tells, tests}
+use Rattle.places.proofs.Agree.{some-agree, count-agree}
+use Rattle.places.proofs.Some.{some-tells}
+use Rattle.places.proofs.Largest.{least-low, least-one}
+use Rattle.places.proofs.Search.{first-some}
 use Rattle.locks.specs.declared.Job.{Job}
 use Rattle.locks.specs.declared.Starts.{Starts}
-use Rattle.locks.specs.Counting.{countBelow, firstFrom}
 use Rattle.locks.specs.Bits.{hasBit}
 use Rattle.locks.specs.Jobs.{jobAt, someJob, within, runs, busy, isCritical, startsAt}
 use Rattle.locks.specs.Free.{nextStart, isFree, freeTicks, freeTime}
-use Rattle.locks.specs.Distances.{distance, sumBelow, nearest, between}
+use Rattle.locks.specs.Distances.{distance, nearest, between}
 use Rattle.locks.proofs.Given.{GoodStarts, within-tells}
 use Rattle.locks.proofs.Cycle.{distance-inside, runs-later, starts-later}
-use Rattle.locks.proofs.Ticks.{count-agree, free-before}
-use Rattle.locks.proofs.Closest.{least-low, least-one, first-from, first-some}
+use Rattle.locks.proofs.Ticks.{free-before}
 
 -- `someJob` tells that there is a job below the count of which the test's proposition holds
 pub job-tells : {P : Job → Type 0} {test : Job → Bool} → ((job : Job) → Tells (P job) (test job)) → (jobs : List Job) (count : ℕ) → Tells ((place : ℕ) × (place < count) × P (jobAt jobs place)) (someJob jobs count test)
@@ -117,8 +118,8 @@ module _ (s : Starts) (time : ℕ) (good : GoodStarts s) (idle : busy s time ≡
     next-tied =
         let test = startsAt s resource in
         let here = shown (starts-at-tells s resource (time + near)) (near-job .0, near-job .1, (near-job .2, starts-exactly (near-job .0) (near-job .1) near (omega (arith, near-inside)) (near-inside .0) .1 (near-job .3))) in
-        let first = first-some test (time + 1) (s .period) (time + near) (omega (arith, near-inside)) (omega (arith, near-inside)) here in
-        go (firstFrom test (time + 1) (s .period)) (first-from test (time + 1) (s .period)) (first .0) (told (starts-at-tells s resource (firstFrom test (time + 1) (s .period))) (first .1))
+        let first = first-some test (s .period) (time + 1) (time + near) (omega (arith, near-inside)) (omega (arith, near-inside)) here in
+        go (firstFrom test (time + 1) (s .period)) (first .0) (first .1) (told (starts-at-tells s resource (firstFrom test (time + 1) (s .period))) (first .2))
       where
         go : (first : ℕ) → time + 1 ≤ first → first ≤ time + near → (place : ℕ) × (place < s .count) × (Uses place × (first % s .period ≡ job place .offset)) → first ≡ time + near
         go first low high w =

@@ -2,7 +2,7 @@
 use Prim.Native.Nat.{ℕ, _-_, _/_, _%_, _^_}
 use mathlib.Core.Bool.{Bool, not, _&&_}
 use lib.Dec.{eqb, leb}
-use Rattle.locks.specs.Counting.{highestBelow}
+use Rattle.places.specs.Places.{highestBelow}
 
 -- whether the bit at a place is set
 unfoldable pub hasBit : ℕ → ℕ → Bool

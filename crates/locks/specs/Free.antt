@@ -1,11 +1,12 @@
 -- "the free time before the next start that uses it. Free time leaves out the started jobs in between": tick by tick.
 use Prim.Native.Nat.{ℕ, _+_, _-_}
 use mathlib.Core.Bool.{Bool, not}
+use Rattle.places.specs.Places.{countBelow}
+use Rattle.places.specs.Search.{firstFrom}
 use Rattle.locks.specs.declared.Starts.{Starts}
-use Rattle.locks.specs.Counting.{countBelow, firstFrom}
 use Rattle.locks.specs.Jobs.{busy, startsAt}
 
--- "the next start that uses it": the first after the time, looked for over one period, since the table repeats
+-- "the next start that uses it": the first after the time, looked for over one period, since the table repeats; 0 where none uses it
 unfoldable pub nextStart : Starts → ℕ → ℕ → ℕ
 nextStart s resource time = firstFrom (startsAt s resource) (time + 1) (s .period)
 

@@ -1,5 +1,4 @@
--- What a reader of the crate's promises must believe, in the order of ask 9. `Broken` is a second reading of the refusals, and `Distances` is an inner device; no public promise cites them.
-pub mod Counting
+-- What a reader of the crate's promises must believe, in the order of request 9. `Broken` is a second reading of the refusals, and `Distances` is an inner device; no public promise cites them.
 pub mod Bits
 pub mod Jobs
 pub mod Ceilings

@@ -3,7 +3,7 @@ use Prim.Native.Nat.{ℕ, _+_}
 use mathlib.Core.Bool.{Bool, cond, not, _&&_, _||_}
 use mathlib.Core.List.{List}
 use lib.Dec.{eqb, ltb}
-use Rattle.sheet.specs.Places.{someBelow}
+use Rattle.places.specs.Places.{someBelow}
 use Rattle.locks.specs.declared.Job.{Job}
 use Rattle.locks.specs.declared.Starts.{Starts}
 use Rattle.locks.specs.declared.Resource.{Resource}

@@ -1,7 +1,7 @@
 // Ceilings, and whether a resource that another task holds has one that a priority is not above.
 ghost use mathlib.Core.Path.{_≡_};
 ghost use Prim.Native.Nat.{_≤_};
-ghost use Rattle.sheet.specs.Places.{someBelow};
+ghost use Rattle.places.specs.Places.{someBelow};
 ghost use Rattle.locks.specs.Bits.{hasBit};
 ghost use Rattle.locks.specs.Jobs.{someJob};
 ghost use Rattle.locks.specs.Ceilings.{resourceAt, ceilingOf, bars};

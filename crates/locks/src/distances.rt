@@ -37,7 +37,9 @@ fn nearer(counts: bool, distance: u64, near: u64) -> u64
 
 // The distance of the next start that uses the resource; the period where there is none.
 fn nearest(jobs: [Job; 8], count: u8, resource: usize, phase: u32, period: u32) -> u64
-    requires { ⌜ (count ≤ 8) × (resource ≤ 7) × (phase < period) ⌝ }
+    requires few { ⌜ count ≤ 8 ⌝ }
+    requires known { ⌜ resource ≤ 7 ⌝ }
+    requires inside { ⌜ phase < period ⌝ }
     ensures { λ r. ⌜ r ≡ nearest period phase resource jobs count ⌝ }
 {
     let mut near = period as u64;
@@ -56,7 +58,8 @@ fn nearest(jobs: [Job; 8], count: u8, resource: usize, phase: u32, period: u32) 
 
 // A length where the distance is below the limit, else 0.
 fn length_before(distance: u64, limit: u64, length: u32) -> u64
-    ensures { λ r. ⌜ (r ≡ cond (ltb distance limit) length 0) × (r < 4294967296) ⌝ }
+    ensures counted { λ r. ⌜ r ≡ cond (ltb distance limit) length 0 ⌝ }
+    ensures small { λ r. ⌜ r < 4294967296 ⌝ }
 {
     if distance < limit {
         return length as u64;
@@ -66,7 +69,8 @@ fn length_before(distance: u64, limit: u64, length: u32) -> u64
 
 // The lengths together of the jobs whose next start is nearer than the limit.
 fn between(jobs: [Job; 8], count: u8, limit: u64, phase: u32, period: u32) -> u64
-    requires { ⌜ (count ≤ 8) × (phase < period) ⌝ }
+    requires few { ⌜ count ≤ 8 ⌝ }
+    requires inside { ⌜ phase < period ⌝ }
     ensures { λ r. ⌜ r ≡ between period phase limit jobs count ⌝ }
 {
     let mut sum: u64 = 0;
@@ -81,8 +85,12 @@ fn between(jobs: [Job; 8], count: u8, limit: u64, phase: u32, period: u32) -> u6
 
 // The free time before the next start that uses the resource.
 pub fn free_time(starts: Starts, resource: usize, time: u64) -> u64
-    requires { ⌜ (wrongStarts starts ≡ false) × (busy starts time ≡ false) × (isCritical starts resource ≡ true) × (resource ≤ 7) ⌝ }
-    ensures { λ r. ⌜ (r ≡ freeTime starts resource time) × (r < 4294967296) ⌝ }
+    requires good { ⌜ wrongStarts starts ≡ false ⌝ }
+    requires idle { ⌜ busy starts time ≡ false ⌝ }
+    requires critical { ⌜ isCritical starts resource ≡ true ⌝ }
+    requires known { ⌜ resource ≤ 7 ⌝ }
+    ensures exact { λ r. ⌜ r ≡ freeTime starts resource time ⌝ }
+    ensures small { λ r. ⌜ r < 4294967296 ⌝ }
 {
     let jobs = starts.jobs;
     let period = starts.period;

@@ -2,7 +2,7 @@
 ghost use mathlib.Core.Path.{_≡_};
 ghost use mathlib.Core.Bool.{_||_};
 ghost use Prim.Native.Nat.{_+_, _≤_, _<_};
-ghost use Rattle.sheet.specs.Places.{someBelow};
+ghost use Rattle.places.specs.Places.{someBelow};
 ghost use Rattle.locks.specs.Jobs.{jobAt};
 ghost use Rattle.locks.specs.Rules.{isWrong, overlap, overlapsEarlier, wrongStarts, wrongHolder, someWrongHolder};
 use crate::Job;

@@ -9,7 +9,8 @@ use crate::bits;
 // Where in its period a time stands.
 pub fn phase(time: u64, period: u32) -> u32
     requires { ⌜ 0 < period ⌝ }
-    ensures { λ r. ⌜ (r ≡ time % period) × (r < period) ⌝ }
+    ensures rest { λ r. ⌜ r ≡ time % period ⌝ }
+    ensures below { λ r. ⌜ r < period ⌝ }
 {
     (time % period as u64) as u32
 }
@@ -44,7 +45,8 @@ pub fn some_runs(jobs: [Job; 8], count: u8, phase: u32) -> bool
 
 // Whether some job uses a resource.
 pub fn some_uses(jobs: [Job; 8], count: u8, resource: usize) -> bool
-    requires { ⌜ (count ≤ 8) × (resource ≤ 7) ⌝ }
+    requires few { ⌜ count ≤ 8 ⌝ }
+    requires known { ⌜ resource ≤ 7 ⌝ }
     ensures { λ r. ⌜ r ≡ someJob jobs count (λ job. hasBit (job .uses) resource) ⌝ }
 {
     let mut found = false;

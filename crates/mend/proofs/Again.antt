@@ -1,5 +1,5 @@
 -- Good sheets and mended ones: nothing is changed in a good record, nor in a record or a sheet that was mended before. Assumes nothing.
-use Prim.Native.Nat.{ℕ, zero, suc, _+_, _≤_}
+use Prim.Native.Nat.{ℕ, _+_, _≤_}
 use mathlib.Core.Path.{_≡_, refl, sym, ap, ap₂, subst, _∙_}
 use mathlib.Core.Bool.{Bool, true, false, cond}
 use mathlib.Core.List.{List, [], _++_}
@@ -9,15 +9,16 @@ use borrow.Author.Tests.{eq-eqb, le-ltb}
 use lib.Dec.{ltb}
 use lib.ListN.{length, take}
 use lib.Seq.{take-all}
+use Rattle.places.specs.Places.{joinedBelow}
+use Rattle.places.proofs.Agree.{Agree, joined-agree}
+use Rattle.places.proofs.Joined.{joined-none}
 use Rattle.sheet.specs.declared.Record.{Record}
-use Rattle.sheet.specs.Places.{joinedBelow}
-use Rattle.sheet.specs.Layout.{countOf, startOf, sizeOf, sheetRecord, recordBytes}
+use Rattle.sheet.specs.Layout.{countOf, startOf, sizeOf, saidSize, sheetRecord, recordBytes}
 use Rattle.sheet.specs.Rules.{outside, sheetRefusal}
 use Rattle.sheet.proofs.Cases.{Good, good-sheet, good-at, outside-within}
 use Rattle.sheet.proofs.Spelled.{Bytes}
-use Rattle.sheet.proofs.Agree.{Agree, joined-agree}
 use Rattle.mend.specs.declared.Change.{Change}
-use Rattle.mend.specs.Mended.{mendedDeadline, mendedFault, mendedRecord, saidSize, sheetWith, mended}
+use Rattle.mend.specs.Mended.{mendedDeadline, mendedFault, mendedRecord, sheetWith, mended}
 use Rattle.mend.specs.Changes.{listed, lengthChange, deadlineChange, faultChange, recordChanges, changesOf}
 use Rattle.mend.proofs.Complete.{Complete}
 use Rattle.mend.proofs.Rebuilt.{count-alike, edition-alike, start-alike, cut-with, with-start, with-length, with-records}
@@ -55,11 +56,6 @@ mended-again r =
 listed-none : (change : Change) → change .old ≡ change .new → listed change ≡ []
 unfolding listed
 listed-none change e = simp (eq-eqb (change .old) (change .new) e)
-
-joined-none : {A : Type 0} (n : ℕ) → joinedBelow {A = A} (λ k. []) n ≡ []
-unfolding joinedBelow
-joined-none zero = refl
-joined-none (suc n) = ap (λ (l : List _). l ++ []) (joined-none n)
 
 module _ (s : List ℕ) (good : sheetRefusal s ≡ 0) where
   good-whole : Complete s

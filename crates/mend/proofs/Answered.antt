@@ -6,16 +6,18 @@ use mathlib.Core.List.{List, _++_}
 use borrow.Author.Tests.{ne-eqb}
 use lib.Dec.{eqb, ltb}
 use lib.ListN.{length, take, drop}
+use Rattle.places.specs.Places.{joinedBelow}
+use Rattle.places.specs.Refusals.{orElse}
+use Rattle.places.proofs.Agree.{joined-agree}
+use Rattle.places.proofs.Refusals.{first-of}
 use Rattle.sheet.specs.declared.Table.{Table}
 use Rattle.sheet.specs.declared.Reading.{Reading}
 use Rattle.sheet.specs.declared.Writing.{Writing}
-use Rattle.sheet.specs.Places.{orElse, joinedBelow}
 use Rattle.sheet.specs.Layout.{countOf, sheetRecord, recordAt, tableOf, tableSize}
 use Rattle.sheet.specs.Rules.{headerRefusal, sheetRefusal}
 use Rattle.sheet.specs.Answers.{unjudgedAnswer, writeRefusal, writeAnswer, writeLeaves}
-use Rattle.sheet.proofs.Turns.{first-of}
 use Rattle.sheet.proofs.Spelled.{Bytes}
-use Rattle.sheet.proofs.Agree.{joined-agree, room-at}
+use Rattle.sheet.proofs.Agree.{room-at}
 use Rattle.sheet.proofs.Return.{size-kept, sheet-kept}
 use Rattle.mend.specs.declared.Change.{Change}
 use Rattle.mend.specs.declared.Mending.{Mending}

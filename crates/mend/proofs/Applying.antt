@@ -12,14 +12,15 @@ use lib.Dec.{eqb, ltb}
 use lib.ListN.{length, set, take, length-set, drop-of-length-le}
 use lib.Seq.{sets, sets-eq, set-append-left, take-all}
 use mathlib.Core.List.{append-nil}
+use Rattle.places.specs.Places.{joinedBelow}
+use Rattle.places.proofs.Agree.{Agree, joined-agree}
+use Rattle.places.proofs.Joined.{length-joined}
 use Rattle.sheet.specs.declared.Record.{Record}
-use Rattle.sheet.specs.Places.{joinedBelow}
-use Rattle.sheet.specs.Layout.{countOf, startOf, sheetRecord, recordBytes}
+use Rattle.sheet.specs.Layout.{countOf, startOf, saidSize, sheetRecord, recordBytes}
 use Rattle.sheet.proofs.Spelled.{Bytes, Sized}
-use Rattle.sheet.proofs.Stores.{length-joined, length-record}
-use Rattle.sheet.proofs.Agree.{Agree, joined-agree}
+use Rattle.sheet.proofs.Stores.{length-record}
 use Rattle.mend.specs.declared.Change.{Change}
-use Rattle.mend.specs.Mended.{mendedDeadline, mendedFault, mendedRecord, saidSize, sheetWith, mended}
+use Rattle.mend.specs.Mended.{mendedDeadline, mendedFault, mendedRecord, sheetWith, mended}
 use Rattle.mend.specs.Changes.{listed, lengthChange, deadlineChange, faultChange, recordChanges, changesOf}
 use Rattle.mend.specs.Applied.{withDeadline, withFault, putAt, applyAt, apply, applyAll}
 use Rattle.mend.proofs.Complete.{Complete}

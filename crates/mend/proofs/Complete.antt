@@ -1,17 +1,15 @@
 -- Sheets whose header says how long they are and that have all those bytes: what is known of one, and how many bytes are kept of it. Assumes nothing.
-use Prim.Native.Nat.{ℕ, _+_, _*_, _/_, _%_, _≤_, _<_}
-use mathlib.Core.Path.{_≡_, refl, sym, ap₂, _∙_}
-use mathlib.Core.Bool.{Bool, true, false, cond, _&&_, true≢false, false≢true}
-use mathlib.Core.Logic.{_⊎_, inl, inr, ⊎-elim}
+use Prim.Native.Nat.{ℕ, _≤_, _<_}
+use mathlib.Core.Path.{_≡_, refl, sym}
+use mathlib.Core.Bool.{Bool, cond}
 use mathlib.Core.List.{List}
 use native.Mathlib.Omega.{arith}
-use lib.Dec.{ltb, leb}
-use lib.ListN.{length, getD}
-use Rattle.sheet.specs.Layout.{countOf, editionOf, sizeOf}
-use Rattle.sheet.specs.Broken.{Outside}
-use Rattle.sheet.proofs.Spelled.{Bytes, count-spelled, edition-spelled}
-use Rattle.sheet.proofs.Tells.{Tells, holds, fails, tells-iff, ltb-tells, leb-tells, not-tells, and-tells, outside-tells}
-use Rattle.mend.specs.Mended.{saidSize, isKnown, isComplete}
+use lib.ListN.{length}
+use Rattle.places.proofs.Tells.{Tells, holds, fails, tells-iff, eqb-tells, leb-tells, and-tells}
+use Rattle.sheet.specs.Layout.{countOf, editionOf, saidSize}
+use Rattle.sheet.specs.Rules.{sizeRefusal}
+use Rattle.sheet.proofs.Cases.{within, outside-within, good-size, size-good}
+use Rattle.mend.specs.Mended.{isComplete}
 use Rattle.mend.specs.Steps.{keptOf}
 
 -- a count from 1 to 8 and an edition that there is
@@ -24,28 +22,17 @@ pub record Complete (s : List ℕ) : Type 0 where
   pub known : Known (countOf s) (editionOf s)
   pub fits : saidSize s ≤ length s
 
-known-tells : (count edition : ℕ) → Tells (Known count edition) (isKnown count edition)
-unfolding isKnown
-known-tells count edition = tells-iff (λ h. (inside (h .0), h .1)) (λ h. (⊎-elim (λ e. omega arith) (λ l. omega arith), h .1)) (and-tells (not-tells (outside-tells count 8)) (leb-tells edition 1))
-  where
-    inside : (Outside count 8 → ⊥) → (1 ≤ count) × (count ≤ 8)
-    inside n =
-        let some : count ≡ 0 → ⊥ = λ e. n (inl e) in
-        let low : 8 < count → ⊥ = λ l. n (inr l) in
-        omega arith
-
--- two tests that tell the same thing are one
-same : {P : Type 0} {a b : Bool} → Tells P a → Tells P b → a ≡ b
-same (holds p) (holds q) = refl
-same (holds p) (fails n) = absurd (n p)
-same (fails n) (holds q) = absurd (n q)
-same (fails n) (fails m) = refl
-
 pub complete-tells : (s : List ℕ) → Tells (Complete s) (isComplete s)
 unfolding isComplete
-complete-tells s =
-    tells-iff (λ h. record { long = h .0; known = h .1 .0; fits = h .1 .1 }) (λ h. (h .long, (h .known, h .fits)))
-    (and-tells (leb-tells 3 (length s)) (and-tells (known-tells (countOf s) (editionOf s)) (leb-tells (saidSize s) (length s))))
+complete-tells s = tells-iff here there (and-tells (eqb-tells (sizeRefusal s) 0) (leb-tells (saidSize s) (length s)))
+  where
+    here : (sizeRefusal s ≡ 0) × (saidSize s ≤ length s) → Complete s
+    here h =
+        let said = good-size s (h .0) in
+        record { long = said .long; known = (within (countOf s) 8 (said .count), said .edition); fits = h .1 }
+
+    there : Complete s → (sizeRefusal s ≡ 0) × (saidSize s ≤ length s)
+    there h = (sym (size-good s (h .long) (outside-within (countOf s) 8 (h .known .0)) (h .known .1)), h .fits)
 
 -- a number that is the said size of a complete sheet and the length of any other is how many bytes are kept
 kept-is : (s : List ℕ) (n : ℕ) → (Complete s → n ≡ saidSize s) → ((Complete s → ⊥) → n ≡ length s) → n ≡ keptOf s
@@ -56,41 +43,15 @@ kept-is s n if-complete if-not = go (complete-tells s)
     go (holds h) = if-complete h
     go (fails h) = if-not h
 
--- the test as the code makes it
-pub known-code : (count edition : ℕ) → ((ltb 0 count && leb count 8) && leb edition 1) ≡ isKnown count edition
-known-code count edition = same (and-tells (and-tells (ltb-tells 0 count) (leb-tells count 8)) (leb-tells edition 1)) (known-tells count edition)
+-- how many bytes are kept, as the code finds it from what the header says
+module _ (s : List ℕ) where
+  pub kept-unknown : (sizeRefusal s ≡ 0 → ⊥) → length s ≡ keptOf s
+  kept-unknown broken = kept-is s (length s) (λ h. absurd (broken (sym (size-good s (h .long) (outside-within (countOf s) 8 (h .known .0)) (h .known .1))))) (λ h. refl)
 
--- how many bytes are kept, as the code finds it from the first byte
-module _ (s : List ℕ) (byte : Bytes s) where
-  pub kept-short : length s < 3 → length s ≡ keptOf s
-  kept-short short = kept-is s (length s) (λ h. absurd (omega (arith, h .long))) (λ h. refl)
+  pub kept-cut : sizeRefusal s ≡ 0 → saidSize s < length s → saidSize s ≡ keptOf s
+  kept-cut good longer =
+      let said = good-size s good in
+      kept-is s (saidSize s) (λ h. refl) (λ h. absurd (h (record { long = said .long; known = (within (countOf s) 8 (said .count), said .edition); fits = omega arith })))
 
-  module _ (long : 3 ≤ length s) where
-    -- the count and the edition in the first byte
-    read-known : isKnown (getD s 0 0 / 16) (getD s 0 0 % 16) ≡ isKnown (countOf s) (editionOf s)
-    read-known = sym (ap₂ isKnown (count-spelled s long byte) (edition-spelled s long byte))
-
-    read-size : 3 + 4 * (getD s 0 0 % 16) + 9 * (getD s 0 0 / 16) ≡ saidSize s
-    unfolding sizeOf
-    read-size = sym (ap₂ (λ (e n : ℕ). 3 + 4 * e + 9 * n) (edition-spelled s long byte) (count-spelled s long byte))
-
-    pub kept-unknown : isKnown (getD s 0 0 / 16) (getD s 0 0 % 16) ≡ false → length s ≡ keptOf s
-    kept-unknown no-size = kept-is s (length s) (λ h. absurd (true≢false (told (known-tells (countOf s) (editionOf s)) (h .known) ∙ (sym read-known ∙ no-size)))) (λ h. refl)
-      where
-        told : {P : Type 0} {b : Bool} → Tells P b → P → true ≡ b
-        told (holds p) q = refl
-        told (fails n) q = absurd (n q)
-
-    module _ (is : isKnown (getD s 0 0 / 16) (getD s 0 0 % 16) ≡ true) where
-      known : Known (countOf s) (editionOf s)
-      known = told (known-tells (countOf s) (editionOf s)) (sym read-known ∙ is)
-        where
-          told : {P : Type 0} {b : Bool} → Tells P b → b ≡ true → P
-          told (holds p) e = p
-          told (fails n) e = absurd (false≢true e)
-
-      pub kept-cut : 3 + 4 * (getD s 0 0 % 16) + 9 * (getD s 0 0 / 16) < length s → 3 + 4 * (getD s 0 0 % 16) + 9 * (getD s 0 0 / 16) ≡ keptOf s
-      kept-cut longer = kept-is s _ (λ h. read-size) (λ h. absurd (h (record { long = long; known = known; fits = omega (arith, read-size) })))
-
-      pub kept-whole : length s ≤ 3 + 4 * (getD s 0 0 % 16) + 9 * (getD s 0 0 / 16) → length s ≡ keptOf s
-      kept-whole shorter = kept-is s (length s) (λ h. omega (arith, read-size, h .fits)) (λ h. refl)
+  pub kept-whole : length s ≤ saidSize s → length s ≡ keptOf s
+  kept-whole shorter = kept-is s (length s) (λ h. omega (arith, h .fits)) (λ h. refl)

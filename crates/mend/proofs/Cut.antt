@@ -9,17 +9,18 @@ use native.Mathlib.Omega.{arith}
 use lib.Dec.{ltb}
 use lib.ListN.{length, getD, take, replicate, getD-replicate}
 use lib.Seq.{take-all, ext-getD}
+use Rattle.places.specs.Places.{filledBelow}
+use Rattle.places.proofs.Tells.{Tells, holds, fails}
+use Rattle.places.proofs.Filled.{length-filled, filled-at, filled-past}
+use Rattle.places.proofs.Refusals.{next-of}
 use Rattle.sheet.specs.declared.Record.{Record}
-use Rattle.sheet.specs.Places.{filledBelow}
-use Rattle.sheet.specs.Layout.{countOf, editionOf, intervalOf, roundOf, shareOf, startOf, sheetRecord, noRecord, recordAt, room, tableOf}
-use Rattle.sheet.specs.Rules.{outside, wrongShare, headerRefusal, sheetRefusal, tableRefusal}
-use Rattle.sheet.proofs.Turns.{length-filled, next-of}
-use Rattle.sheet.proofs.Cases.{GoodHeader, good-header, table-records, within, outside-within, header-1, header-2, header-3, header-1-again, header-4}
+use Rattle.sheet.specs.Layout.{countOf, intervalOf, roundOf, shareOf, startOf, saidSize, sheetRecord, noRecord, recordAt, room, tableOf}
+use Rattle.sheet.specs.Rules.{outside, wrongShare, sizeRefusal, headerRefusal, sheetRefusal, tableRefusal}
+use Rattle.sheet.proofs.Cases.{GoodHeader, good-header, table-records, within, outside-within, good-size, size-low, header-size, header-1-again, header-4}
 use Rattle.sheet.proofs.Spelled.{Bytes, Sized}
-use Rattle.sheet.proofs.Agree.{records-agree, room-at, filled-at, filled-past}
+use Rattle.sheet.proofs.Agree.{records-agree, room-at}
 use Rattle.sheet.proofs.Return.{edition-kept}
-use Rattle.sheet.proofs.Tells.{Tells, holds, fails}
-use Rattle.mend.specs.Mended.{mendedDeadline, mendedFault, mendedRecord, saidSize, sheetWith, mended, isComplete}
+use Rattle.mend.specs.Mended.{mendedDeadline, mendedFault, mendedRecord, sheetWith, mended, isComplete}
 use Rattle.mend.specs.Steps.{keptOf, mendedTable}
 use Rattle.mend.proofs.Complete.{Complete, complete-tells}
 use Rattle.mend.proofs.Rebuilt.{start-alike, header-alike, sheet-sized, cut-with, with-start, with-length, with-table, with-byte}
@@ -87,27 +88,21 @@ module _ (s : List ℕ) (short : Complete s → ⊥) where
 
 -- and refused with 1, 2, 3 or 4
 pub incomplete-low : (s : List ℕ) → (Complete s → ⊥) → (1 ≤ headerRefusal s) × (headerRefusal s ≤ 4)
-incomplete-low s short = long (decLt (length s) 3)
+incomplete-low s short = said (ℕ-discrete (sizeRefusal s) 0)
   where
-    size : 3 ≤ length s → outside (countOf s) 8 ≡ false → editionOf s ≤ 1 → startOf s ≤ length s → Dec (length s ≡ saidSize s) → (1 ≤ headerRefusal s) × (headerRefusal s ≤ 4)
-    size a b d h (yes e) = absurd (short (record { long = a; known = (within (countOf s) 8 b, d); fits = le-of-eq (sym e) }))
-    size a b d h (no e) = omega (arith, header-4 s a b d h e)
+    size : sizeRefusal s ≡ 0 → startOf s ≤ length s → Dec (length s ≡ saidSize s) → (1 ≤ headerRefusal s) × (headerRefusal s ≤ 4)
+    size z h (yes e) =
+        let known = good-size s z in
+        absurd (short (record { long = known .long; known = (within (countOf s) 8 (known .count), known .edition); fits = le-of-eq (sym e) }))
+    size z h (no e) = omega (arith, header-4 s z h e)
 
-    start : 3 ≤ length s → outside (countOf s) 8 ≡ false → editionOf s ≤ 1 → Dec (length s < startOf s) → (1 ≤ headerRefusal s) × (headerRefusal s ≤ 4)
-    start a b d (yes h) = omega (arith, header-1-again s a b d h)
-    start a b d (no h) = size a b d (omega arith) (ℕ-discrete (length s) (saidSize s))
+    start : sizeRefusal s ≡ 0 → Dec (length s < startOf s) → (1 ≤ headerRefusal s) × (headerRefusal s ≤ 4)
+    start z (yes h) = omega (arith, header-1-again s z h)
+    start z (no h) = size z (omega arith) (ℕ-discrete (length s) (saidSize s))
 
-    edition : 3 ≤ length s → outside (countOf s) 8 ≡ false → Dec (1 < editionOf s) → (1 ≤ headerRefusal s) × (headerRefusal s ≤ 4)
-    edition a b (yes d) = omega (arith, header-3 s a b d)
-    edition a b (no d) = start a b (omega arith) (decLt (length s) (startOf s))
-
-    count : 3 ≤ length s → (b : Bool) → outside (countOf s) 8 ≡ b → (1 ≤ headerRefusal s) × (headerRefusal s ≤ 4)
-    count a true b = omega (arith, header-2 s a b)
-    count a false b = edition a b (decLt 1 (editionOf s))
-
-    long : Dec (length s < 3) → (1 ≤ headerRefusal s) × (headerRefusal s ≤ 4)
-    long (yes a) = omega (arith, header-1 s a)
-    long (no a) = count (omega arith) (outside (countOf s) 8) refl
+    said : Dec (sizeRefusal s ≡ 0) → (1 ≤ headerRefusal s) × (headerRefusal s ≤ 4)
+    said (yes z) = start z (decLt (length s) (startOf s))
+    said (no z) = omega (arith, header-size s z, size-low s)
 
 -- a claim about a sheet that is complete, and about one that is not
 pub by-cases : {P : Type 0} (s : List ℕ) → (Complete s → P) → ((Complete s → ⊥) → P) → P

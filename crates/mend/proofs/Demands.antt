@@ -1,4 +1,4 @@
--- Ask 11's demands in its own words, about the definitions that the promise cites. Assumes nothing.
+-- Request 11's demands in its own words, about the definitions that the promise cites. Assumes nothing.
 use Prim.Native.Nat.{ℕ, _+_, _*_, _-_, _≤_, _<_}
 use mathlib.Core.Path.{_≡_, refl, sym, ap, subst, _∙_}
 use mathlib.Core.Bool.{cond}
@@ -10,15 +10,16 @@ use borrow.Author.Tests.{lt-ltb, le-ltb}
 use lib.Dec.{eqb, ltb}
 use lib.ListN.{length, getD, take, drop, replicate, getD-replicate}
 use lib.Seq.{take-at, getD-append-add}
+use Rattle.places.specs.Refusals.{orElse, InOrder}
+use Rattle.places.proofs.Tells.{shown, ltb-tells}
+use Rattle.places.proofs.Refusals.{next-of, none-of, first-of}
+use Rattle.places.proofs.Order.{says-none, says-row, says-wider, says-joined, in-order}
 use Rattle.sheet.specs.declared.Record.{Record}
-use Rattle.sheet.specs.Places.{orElse}
 use Rattle.sheet.specs.Layout.{countOf, editionOf, intervalOf, roundOf, shareOf, startOf, sizeOf, partOf, sheetRecord}
 use Rattle.sheet.specs.Rules.{headerRefusal, sheetRefusal}
-use Rattle.sheet.specs.Broken.{Outside, InOrder, sheetRows}
-use Rattle.sheet.proofs.Turns.{next-of, none-of, first-of}
-use Rattle.sheet.proofs.Cases.{good-sheet, outside-within}
-use Rattle.sheet.proofs.Tells.{shown, ltb-tells, outside-tells}
-use Rattle.sheet.proofs.Order.{says-none, says-row, says-wider, says-joined, in-order, rule-positive, sheet-says, sheet-in-order}
+use Rattle.sheet.specs.Broken.{Outside, sheetRows}
+use Rattle.sheet.proofs.Cases.{good-sheet, outside-within, outside-tells}
+use Rattle.sheet.proofs.Order.{rule-positive, sheet-says, sheet-in-order}
 use Rattle.sheet.proofs.Refused.{given-if, beside-refusal}
 use Rattle.sheet.proofs.Spelled.{Bytes}
 use Rattle.mend.specs.declared.Field.the-variants.{Length}

@@ -4,12 +4,12 @@ use mathlib.Core.Path.{_≡_, refl, sym, ap, subst, _∙_}
 use mathlib.Core.Bool.{Bool, true, false, cond}
 use mathlib.Core.List.{List, [], _∷_, _++_, List·Memᴰ, List·Memᴰ·head, List·Memᴰ·append-cases, List·Memᴰ·eq-of-singleton, List·Memᴰ·not-nil, Memᴰ·append-left, Memᴰ·append-right}
 use mathlib.Core.Logic.{_⊎_, _↔_, inl, inr, ⊎-elim}
-use native.Mathlib.Nat.{eq-or-lt-of-le, le-of-suc-le-suc}
 use native.Mathlib.Omega.{arith}
 use borrow.Author.Tests.{ne-eqb, eqb-false}
 use lib.Dec.{eqb}
+use Rattle.places.specs.Places.{joinedBelow}
+use Rattle.places.proofs.Joined.{joined-some, some-joined}
 use Rattle.sheet.specs.declared.Record.{Record}
-use Rattle.sheet.specs.Places.{joinedBelow}
 use Rattle.sheet.specs.Layout.{countOf, sheetRecord}
 use Rattle.sheet.proofs.Spelled.{Bytes}
 use Rattle.mend.specs.declared.Field.{Field}
@@ -34,18 +34,6 @@ listed-is c d = go (eqb (d .old) (d .new)) refl
 is-listed : (c d : Change) → c ≡ d → (d .old ≡ d .new → ⊥) → List·Memᴰ c (listed d)
 unfolding listed
 is-listed c d is differs = rw (ne-eqb (d .old) (d .new) differs) (List·Memᴰ·head is)
-
--- what stands in lists joined place by place stands in one of them
-joined-some : {A : Type 0} (a : A) (f : ℕ → List A) (n : ℕ) → List·Memᴰ a (joinedBelow f n) → (k : ℕ) × (k < n) × List·Memᴰ a (f k)
-unfolding joinedBelow
-joined-some a f zero m = absurd (List·Memᴰ·not-nil m)
-joined-some a f (suc n) m = ⊎-elim (λ l. let s = joined-some a f n l in (s .0, omega arith, s .2)) (λ r. (n, omega arith, r)) (List·Memᴰ·append-cases (joinedBelow f n) m)
-
-some-joined : {A : Type 0} (a : A) (f : ℕ → List A) (n k : ℕ) → k < n → List·Memᴰ a (f k) → List·Memᴰ a (joinedBelow f n)
-unfolding joinedBelow
-some-joined a f zero k below m = absurd (omega arith)
-some-joined a f (suc n) k below m =
-    ⊎-elim (λ same. Memᴰ·append-right (joinedBelow f n) (subst (λ (j : ℕ). List·Memᴰ a (f j)) same m)) (λ lt. Memᴰ·append-left (f n) (some-joined a f n k lt m)) (eq-or-lt-of-le (le-of-suc-le-suc below))
 
 -- the list of a complete sheet
 module _ (s : List ℕ) (whole : Complete s) (byte : Bytes s) where

@@ -7,8 +7,8 @@ use native.Mathlib.Omega.{arith}
 use lib.Dec.{eqb}
 use lib.ListN.{length, set, replicate, length-append}
 use lib.Seq.{set-at, append-snoc}
+use Rattle.places.specs.Places.{joinedBelow}
 use Rattle.sheet.specs.declared.Record.{Record}
-use Rattle.sheet.specs.Places.{joinedBelow}
 use Rattle.sheet.specs.Layout.{countOf, sheetRecord}
 use Rattle.mend.specs.declared.Change.{Change}
 use Rattle.mend.specs.declared.Changes.{Changes}

@@ -6,17 +6,19 @@ use native.Mathlib.Omega.{arith}
 use lib.Dec.{lit<}
 use lib.ListN.{length, getD, take, drop, length-append, length-drop}
 use lib.Seq.{take-at, drop-at, drop-drop, take-take, take-add, length-take-le}
+use Rattle.places.specs.Places.{joinedBelow}
+use Rattle.places.proofs.Agree.{Agree, joined-agree}
+use Rattle.places.proofs.Joined.{joined-runs, run-at}
 use Rattle.sheet.specs.declared.Record.{Record}
-use Rattle.sheet.specs.Places.{joinedBelow}
 use Rattle.sheet.specs.Packing.{regrouped}
-use Rattle.sheet.specs.Layout.{headerWidths, headerSize, bytes, headerOf, countOf, editionOf, intervalOf, roundOf, shareOf, startOf, sizeOf, partOf, recordOf, sheetRecord, room, tableOf, recordBytes}
+use Rattle.sheet.specs.Layout.{headerWidths, headerSize, bytes, headerOf, countOf, editionOf, intervalOf, roundOf, shareOf, startOf, sizeOf, saidSize, partOf, recordOf, sheetRecord, room, tableOf, recordBytes}
 use Rattle.sheet.specs.Rules.{headerRefusal}
 use Rattle.sheet.proofs.Packing.{fit-regrouped}
 use Rattle.sheet.proofs.Spelled.{Bytes, fit-bytes, record-spelled, Sized, fields-fit}
 use Rattle.sheet.proofs.Stores.{length-record, length-records}
-use Rattle.sheet.proofs.Agree.{Agree, joined-agree, room-agree}
-use Rattle.sheet.proofs.Return.{joined-runs, run-at, bytes-take, bytes-drop, part-kept, record-kept}
-use Rattle.mend.specs.Mended.{saidSize, sheetWith}
+use Rattle.sheet.proofs.Agree.{room-agree}
+use Rattle.sheet.proofs.Return.{bytes-take, bytes-drop, part-kept, record-kept}
+use Rattle.mend.specs.Mended.{sheetWith}
 use Rattle.mend.proofs.Complete.{Complete}
 
 -- bytes after bytes are bytes

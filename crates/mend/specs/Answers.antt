@@ -4,7 +4,7 @@ use mathlib.Core.Bool.{cond}
 use mathlib.Core.List.{List, [], _++_}
 use lib.Dec.{eqb, ltb}
 use lib.ListN.{length, drop}
-use Rattle.sheet.specs.Places.{orElse}
+use Rattle.places.specs.Refusals.{orElse}
 use Rattle.sheet.specs.Rules.{sheetRefusal}
 use Rattle.mend.specs.declared.Mending.{Mending}
 use Rattle.mend.specs.Mended.{mended}

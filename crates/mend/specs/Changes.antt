@@ -4,14 +4,14 @@ use mathlib.Core.Bool.{cond}
 use mathlib.Core.List.{List, [], _∷_, _++_}
 use lib.Dec.{eqb}
 use lib.ListN.{length, replicate}
+use Rattle.places.specs.Places.{joinedBelow}
 use Rattle.sheet.specs.declared.Record.{Record}
-use Rattle.sheet.specs.Places.{joinedBelow}
-use Rattle.sheet.specs.Layout.{countOf, sheetRecord}
+use Rattle.sheet.specs.Layout.{countOf, saidSize, sheetRecord}
 use Rattle.mend.specs.declared.Field.{Field}
 use Rattle.mend.specs.declared.Field.the-variants.{Length, Deadline, FaultPriority}
 use Rattle.mend.specs.declared.Change.{Change}
 use Rattle.mend.specs.declared.Changes.{Changes}
-use Rattle.mend.specs.Mended.{mendedDeadline, mendedFault, saidSize}
+use Rattle.mend.specs.Mended.{mendedDeadline, mendedFault}
 
 -- a field's number: 0 length, 1 deadline, 2 fault priority
 unfoldable pub fieldNumber : Field → ℕ

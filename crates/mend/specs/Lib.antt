@@ -1,4 +1,4 @@
--- What a reader of the crate's promises must believe, in the order of document 02, ask 11.
+-- What a reader of the crate's promises must believe, in the order of document 02, request 11.
 pub mod Mended
 pub mod Changes
 pub mod Answers

@@ -1,13 +1,13 @@
--- The sheet after the three changes that document 02, ask 11, allows: "A mending tool may do three things: cut bytes after the last record, bring a deadline above its period down to the period, and bring a fault priority above the task's own, or zero, to its own." All are made before anything is judged.
+-- The sheet after the three changes that document 02, request 11, allows: "A mending tool may do three things: cut bytes after the last record, bring a deadline above its period down to the period, and bring a fault priority above the task's own, or zero, to its own." All are made before anything is judged.
 use Prim.Native.Nat.{ℕ}
-use mathlib.Core.Bool.{Bool, cond, not, _&&_}
+use mathlib.Core.Bool.{Bool, cond, _&&_}
 use mathlib.Core.List.{List, _++_}
-use lib.Dec.{ltb, leb}
+use lib.Dec.{eqb, ltb, leb}
 use lib.ListN.{length, take}
+use Rattle.places.specs.Places.{joinedBelow}
 use Rattle.sheet.specs.declared.Record.{Record}
-use Rattle.sheet.specs.Places.{joinedBelow}
-use Rattle.sheet.specs.Layout.{countOf, editionOf, startOf, sizeOf, sheetRecord, recordBytes}
-use Rattle.sheet.specs.Rules.{outside}
+use Rattle.sheet.specs.Layout.{countOf, startOf, saidSize, sheetRecord, recordBytes}
+use Rattle.sheet.specs.Rules.{outside, sizeRefusal}
 
 -- "bring a deadline above its period down to the period"
 unfoldable pub mendedDeadline : ℕ → ℕ → ℕ
@@ -29,17 +29,9 @@ mendedRecord r =
       «fault_priority» = mendedFault (r .«fault_priority») (r .priority);
     }
 
--- the bytes up to the end of the last record, by the sheet's own count and edition
-abbrev pub saidSize : List ℕ → ℕ
-saidSize sheet = sizeOf (editionOf sheet) (countOf sheet)
-
--- whether a count and an edition say how long their sheet is
-unfoldable pub isKnown : ℕ → ℕ → Bool
-isKnown count edition = not (outside count 8) && leb edition 1
-
 -- whether the sheet's header says how long the sheet is, and that many bytes are there: else 1, 2, 3 or 4 follows, whatever is changed
 unfoldable pub isComplete : List ℕ → Bool
-isComplete sheet = leb 3 (length sheet) && (isKnown (countOf sheet) (editionOf sheet) && leb (saidSize sheet) (length sheet))
+isComplete sheet = eqb (sizeRefusal sheet) 0 && leb (saidSize sheet) (length sheet)
 
 -- a sheet's header with other records after it, as many as it counts
 unfoldable pub sheetWith : List ℕ → (ℕ → Record) → List ℕ

@@ -4,7 +4,8 @@ use mathlib.Core.Path.{_≡_}
 use mathlib.Core.Logic.{_⊎_}
 use mathlib.Core.List.{List, [], _∷_, _++_}
 use lib.ListN.{length}
-use Rattle.sheet.specs.Broken.{Row, row, RuleNumber, sheetRows}
+use Rattle.places.specs.Refusals.{Row, row}
+use Rattle.sheet.specs.Broken.{RuleNumber, sheetRows}
 use Rattle.mend.specs.Mended.{mended}
 
 -- "the first sheet rule still broken after these changes, then 11"

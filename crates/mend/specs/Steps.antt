@@ -4,15 +4,15 @@ use mathlib.Core.Bool.{cond}
 use mathlib.Core.List.{List, [], _++_}
 use lib.Dec.{eqb}
 use lib.ListN.{length, set}
+use Rattle.places.specs.Places.{joinedBelow, filledBelow}
 use Rattle.sheet.specs.declared.Record.{Record}
 use Rattle.sheet.specs.declared.Table.{Table}
-use Rattle.sheet.specs.Places.{joinedBelow, filledBelow}
-use Rattle.sheet.specs.Layout.{recordAt}
+use Rattle.sheet.specs.Layout.{saidSize, recordAt}
 use Rattle.mend.specs.declared.Field.the-variants.{Length}
 use Rattle.mend.specs.declared.Change.{Change}
 use Rattle.mend.specs.declared.Changes.{Changes}
 use Rattle.mend.specs.declared.Mending.{Mending}
-use Rattle.mend.specs.Mended.{mendedRecord, saidSize, isComplete}
+use Rattle.mend.specs.Mended.{mendedRecord, isComplete}
 use Rattle.mend.specs.Changes.{listed, deadlineChange, faultChange, recordChanges, held}
 
 -- how many bytes of a sheet are kept

@@ -49,7 +49,8 @@ fn refused(refusal: u8) -> Mending
 
 // Writes the mended sheet at the start of the output.
 pub fn mend(sheet: &[u8], out: &mut [u8]) -> Mending
-    ensures { λ r. ⌜ (r ≡ mendAnswer (now (sheet .entry)) (now (out .entry))) × (now (out .exit) ≡ mendLeaves (now (sheet .entry)) (now (out .entry))) ⌝ }
+    ensures answer { λ r. ⌜ r ≡ mendAnswer (now (sheet .entry)) (now (out .entry)) ⌝ }
+    ensures leaves { λ _. ⌜ now (out .exit) ≡ mendLeaves (now (sheet .entry)) (now (out .entry)) ⌝ }
 {
     let end = records::kept(sheet);
     let reading = sheet::read_unjudged(&sheet[..end]);

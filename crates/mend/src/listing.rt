@@ -30,7 +30,8 @@ pub fn none() -> Changes
 // The changes with one more at the end, where its two values differ.
 fn noted(changes: Changes, change: Change) -> Changes
     requires { ⌜ changes .count < 17 ⌝ }
-    ensures { λ r. ⌜ (r ≡ noted changes change) × (r .count ≤ changes .count + 1) ⌝ }
+    ensures noted { λ r. ⌜ r ≡ noted changes change ⌝ }
+    ensures few { λ r. ⌜ r .count ≤ changes .count + 1 ⌝ }
 {
     if change.old == change.new {
         return changes;

@@ -2,35 +2,22 @@
 ghost use mathlib.Core.Path.{_≡_};
 ghost use Prim.Native.Nat.{_≤_};
 ghost use lib.ListN.{length};
-ghost use Rattle.mend.specs.Mended.{isKnown, mendedDeadline, mendedFault, mendedRecord};
+ghost use Rattle.mend.specs.Mended.{mendedDeadline, mendedFault, mendedRecord};
 ghost use Rattle.mend.specs.Steps.{keptOf, mendedTable};
 use sheet::Record;
 use sheet::Table;
 
-// Whether a count and an edition say how long their sheet is.
-fn is_known(count: u8, edition: u8) -> bool
-    ensures { λ r. ⌜ r ≡ isKnown count edition ⌝ }
-{
-    (0 < count) & (count <= 8) & (edition <= 1)
-}
-
 // How many bytes of a sheet are kept: those up to the end of its last record where they are all there, else all.
 pub fn kept(sheet: &[u8]) -> usize
-    ensures { λ r. ⌜ (r ≡ keptOf (now (sheet .entry))) × (r ≤ length (now (sheet .entry))) ⌝ }
+    ensures kept { λ r. ⌜ r ≡ keptOf (now (sheet .entry)) ⌝ }
+    ensures inside { λ r. ⌜ r ≤ length (now (sheet .entry)) ⌝ }
 {
     let whole = sheet.len();
-    if whole < 3 {
+    let said = sheet::said_size(sheet);
+    if said.refusal != 0 {
         return whole;
     }
-    let count = sheet[0] / 16;
-    let edition = sheet[0] % 16;
-    if is_known(count, edition) {
-        let size = 3 + 4 * edition as usize + 9 * count as usize;
-        if size < whole {
-            return size;
-        }
-    }
-    whole
+    if said.size < whole { said.size } else { whole }
 }
 
 // A deadline brought down to its period where it is above it.

@@ -6,10 +6,10 @@ use libc::STDERR_FILENO;
 use libc::STDOUT_FILENO;
 use mend::Change;
 use mend::Changes;
+use streams::endings;
 use streams::input;
 use streams::input::Filled;
 use streams::parts;
-use streams::standing;
 use streams::words;
 use streams::words::Asked;
 
@@ -51,13 +51,13 @@ fn answer(asked: Asked, sheet: &[u8]) -> u8 {
     let place = words::at(asked, 1);
     let changes = mending.changes;
     if !is_told(place, changes) {
-        return standing::failed();
+        return endings::failed();
     }
     let written = parts::part(mending.written, &out);
     if saving::save(place, &out[..written]) {
-        return standing::HOLDS;
+        return endings::HOLDS;
     }
-    standing::TROUBLE
+    endings::TROUBLE
 }
 
 // Says that an input is too long for a sheet typed by hand.
@@ -68,7 +68,7 @@ fn too_long(name: &[u8]) -> u8 {
         STDERR_FILENO,
         b": more than 65,535 bytes, which no sheet typed by hand has\n",
     );
-    standing::TROUBLE
+    endings::TROUBLE
 }
 
 // Reads an opened input to its end and answers it.
@@ -82,7 +82,7 @@ fn take(asked: Asked, opened: i32, name: &[u8]) -> u8 {
         Filled::Full => too_long(name),
         Filled::Failed => {
             input::say_why(name);
-            standing::TROUBLE
+            endings::TROUBLE
         }
     }
 }
@@ -96,9 +96,9 @@ pub fn run(asked: Asked) -> u8 {
     let length = input::name(words::at(asked, 0), &mut name);
     let opened = input::open(&name[..length]);
     if opened < 0 {
-        return standing::TROUBLE;
+        return endings::TROUBLE;
     }
-    let standing = take(asked, opened, &name[..length]);
+    let ending = take(asked, opened, &name[..length]);
     input::close(opened);
-    standing
+    ending
 }

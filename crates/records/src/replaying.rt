@@ -9,9 +9,9 @@ use replay::Counts;
 use replay::Following;
 use report::Name;
 use report::Saying;
+use streams::endings;
 use streams::input;
 use streams::parts;
-use streams::standing;
 use streams::words;
 use streams::words::Asked;
 
@@ -51,16 +51,16 @@ fn answer_log(given: Given, following: Following, is_explained: bool) -> u8 {
         return refusals::print_of(given, replayed.refusal, is_explained);
     }
     let counts = replayed.counts;
-    standing::ended(print(counts), standing::of(counts.missed == 0))
+    endings::ended(print(counts), endings::of(counts.missed == 0))
 }
 
 // Answers a record that was read to its end.
 fn answer_record(given: Given, following: Following, is_explained: bool) -> u8 {
     match following.checked() {
         Checked::Refused(refusal) => refusals::print_of(given, refusal, is_explained),
-        Checked::Accepted => output::line(report::saying_line(Saying::Accepted), standing::HOLDS),
+        Checked::Accepted => output::line(report::saying_line(Saying::Accepted), endings::HOLDS),
         Checked::Differs(tick) => {
-            output::line(report::named_line(Name::Differs, tick), standing::FAILS)
+            output::line(report::named_line(Name::Differs, tick), endings::FAILS)
         }
     }
 }
@@ -75,11 +75,11 @@ pub fn run(asked: Asked, is_record: bool) -> u8 {
     }
     let given = sheets::read(words::at(asked, 0));
     if !given.is_read {
-        return standing::TROUBLE;
+        return endings::TROUBLE;
     }
     let read = following::read(words::at(asked, 1), before(given, is_record));
     if !read.is_read {
-        return standing::TROUBLE;
+        return endings::TROUBLE;
     }
     let following = read.following;
     if is_record {

@@ -2,12 +2,12 @@
 use crate::scanning;
 use console::output;
 use console::refusals;
+use console::taking;
 use files::opened::File;
 use files::saving;
-use intake::sheets;
 use sheet::Table;
+use streams::endings;
 use streams::parts;
-use streams::standing;
 use streams::words;
 use streams::words::Asked;
 use text::Scan;
@@ -34,9 +34,9 @@ fn save(asked: Asked, table: Table, source: File) -> u8 {
     let writing = sheet::write(table, &mut out);
     let written = parts::part(writing.written, &out);
     if saving::save_apart(words::at(asked, 1), &out[..written], source) {
-        return standing::HOLDS;
+        return endings::HOLDS;
     }
-    standing::TROUBLE
+    endings::TROUBLE
 }
 
 // Writes the sheet of the text that the first word names.
@@ -49,7 +49,7 @@ pub fn write(asked: Asked) -> u8 {
     }
     let read = scanning::read(words::at(asked, 0));
     if !read.is_read {
-        return standing::TROUBLE;
+        return endings::TROUBLE;
     }
     let scan = read.scan;
     let understood = scan.finish();
@@ -61,21 +61,22 @@ pub fn write(asked: Asked) -> u8 {
     save(asked, table, source)
 }
 
+// Prints the text of a good sheet.
+fn print(table: Table) -> u8 {
+    let mut buffer = io::buffer();
+    let shown = text::show(table, &mut buffer);
+    endings::ended(output::write(&buffer, shown.size), endings::HOLDS)
+}
+
 // Prints the text of the sheet that the one word names.
 pub fn show(asked: Asked) -> u8 {
     if asked.count != 1 {
         return words::trouble(b"show takes one word, SHEET");
     }
-    let given = sheets::read(words::at(asked, 0));
-    if !given.is_read {
-        return standing::TROUBLE;
+    let taken = taking::table(words::at(asked, 0), asked.is_explained);
+    if !taken.is_good {
+        return taken.ending;
     }
-    let reading = sheets::reading(given);
-    if reading.refusal != 0 {
-        return refusals::print_of(given, reading.refusal, asked.is_explained);
-    }
-    let table = reading.table;
-    let mut buffer = io::buffer();
-    let shown = text::show(table, &mut buffer);
-    standing::ended(output::write(&buffer, shown.size), standing::HOLDS)
+    let table = taken.table;
+    print(table)
 }

@@ -1,4 +1,4 @@
--- Ask 14's demands in its own words, about the definitions. That the refusals are given in its order is `decision-in-order` of Order.antt; cases worked through are in Rows.antt. Assumes nothing.
+-- Request 14's demands in its own words, about the definitions. That the refusals are given in its order is `decision-in-order` of Order.antt; cases worked through are in Rows.antt. Assumes nothing.
 use Prim.Native.Nat.{ℕ, _%_, _^_, _≤_, _<_}
 use mathlib.Core.Path.{_≡_, refl, sym, ap, ap₂, subst, _∙_}
 use mathlib.Core.Bool.{Bool, true, false, cond, not, _&&_, true≢false, false≢true}
@@ -10,16 +10,16 @@ use native.Mathlib.Omega.{arith}
 use borrow.Author.Tests.{eq-eqb, ne-eqb}
 use lib.Dec.{eqb}
 use denote.Ref.{RefT, now}
+use Rattle.places.specs.Places.{someBelow}
+use Rattle.places.proofs.Tells.{Tells, holds, fails, told, shown, unshown, tells-iff, ltb-tells, not-tells, and-tells, tests}
+use Rattle.places.proofs.Agree.{some-agree}
+use Rattle.places.proofs.Some.{some-tells}
 use Rattle.sheet.specs.declared.Table.{Table}
-use Rattle.sheet.specs.Places.{someBelow}
 use Rattle.sheet.specs.Layout.{tableOf}
 use Rattle.sheet.specs.Rules.{sheetRefusal}
-use Rattle.sheet.proofs.Agree.{some-agree}
-use Rattle.sheet.proofs.Tells.{Tells, holds, fails, told, shown, unshown, tells-iff, ltb-tells, not-tells, and-tells, some-tells}
-use Rattle.sheet.proofs.Refused.{tests}
 use Rattle.analysis.specs.declared.Outcome.the-variants.{OnTime, Late}
-use Rattle.analysis.specs.Response.{responseTime, late, passes}
-use Rattle.analysis.specs.Answers.{outcomeOf, ownTasks}
+use Rattle.analysis.specs.Published.Response.{responseTime, late, passes}
+use Rattle.analysis.specs.Common.Entries.{outcomeOf, ownTasks}
 use Rattle.release.specs.declared.Decision.{Decision}
 use Rattle.release.specs.Rules.{isProtected, someOutside, grows, outcomeAt, growsAt, someGrows}
 use Rattle.release.specs.Answers.{isLoaded, decision, Handed}

@@ -6,12 +6,14 @@ use mathlib.Core.Logic.{inl, inr}
 use mathlib.Core.List.{List, _++_}
 use native.Mathlib.Omega.{arith}
 use lib.Dec.{eqb}
-use Rattle.sheet.specs.Places.{orElse}
+use Rattle.places.specs.Refusals.{orElse, InOrder}
+use Rattle.places.proofs.Tells.{Tells, tells-iff, leb-tells, eqb-tells, not-tells, and-tells}
+use Rattle.places.proofs.Some.{some-tells}
+use Rattle.places.proofs.Order.{Says, says-none, says-row, says-wider, says-joined, in-order}
 use Rattle.sheet.specs.Layout.{tableOf}
 use Rattle.sheet.specs.Rules.{sheetRefusal}
-use Rattle.sheet.specs.Broken.{InOrder, sheetRows}
-use Rattle.sheet.proofs.Tells.{Tells, tells-iff, leb-tells, eqb-tells, not-tells, and-tells, some-tells}
-use Rattle.sheet.proofs.Order.{Says, says-none, says-row, says-wider, says-joined, in-order, rule-positive, sheet-says}
+use Rattle.sheet.specs.Broken.{sheetRows}
+use Rattle.sheet.proofs.Order.{rule-positive, sheet-says}
 use Rattle.release.specs.Rules.{isProtected, someOutside}
 use Rattle.release.specs.declared.Decision.{Decision}
 use Rattle.release.specs.Answers.{decision}

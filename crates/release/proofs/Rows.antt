@@ -3,19 +3,21 @@ use Prim.Native.Nat.{ℕ}
 use mathlib.Core.Path.{_≡_, refl}
 use mathlib.Core.Bool.{true, false}
 use mathlib.Core.List.{List, [], _∷_}
-use Rattle.sheet.specs.Places.{orElse, firstBelow, someBelow, filledBelow}
+use Rattle.places.specs.Places.{someBelow, filledBelow, sumBelow, mostBelow}
+use Rattle.places.specs.Search.{firstFrom}
+use Rattle.places.specs.Refusals.{orElse, firstBelow}
 use Rattle.sheet.specs.Packing.{regrouped}
 use Rattle.sheet.specs.Layout.{headerOf, countOf, editionOf, intervalOf, roundOf, shareOf, startOf, sizeOf, partOf, recordFrom, recordOf, sheetRecord, recordAt, room, tableOf}
 use Rattle.sheet.specs.Rules.{outside, wrongShare, taken, refusalOf, recordRefusal, recordsRefusal, headerRefusal, sheetRefusal}
 use Rattle.analysis.specs.declared.Outcome.the-variants.{OnTime, Late}
-use Rattle.analysis.specs.Rounding.{up}
-use Rattle.analysis.specs.Totals.{sumBelow, mostBelow}
-use Rattle.analysis.specs.Tasks.{faultAt, ownChoice}
-use Rattle.analysis.specs.Backups.{others, everyone, backupOf, largestBackup, backupElsewhere, backupFromFault}
-use Rattle.analysis.specs.Equations.{supplierOf, isBetween, struckElsewhere, struckItself}
-use Rattle.analysis.specs.Search.{firstFrom, leastWithin}
-use Rattle.analysis.specs.Response.{timeElsewhere, timeItself, responseWithin, responseTime, isLate, passes}
-use Rattle.analysis.specs.Answers.{outcomeOf}
+use Rattle.analysis.specs.Common.Rounding.{up}
+use Rattle.analysis.specs.Common.Tasks.{faultAt, ownChoice}
+use Rattle.analysis.specs.Common.Backups.{others, everyone, backupOf, largestBackup, backupElsewhere, backupFromFault}
+use Rattle.analysis.specs.Published.Equations.{askedElsewhere, askedItself, isBetween, struckElsewhere, struckItself}
+use Rattle.analysis.specs.Common.Supplier.{supplierOf}
+use Rattle.analysis.specs.Common.Search.{leastWithin}
+use Rattle.analysis.specs.Published.Response.{timeElsewhere, timeItself, responseWithin, responseTime, passes}
+use Rattle.analysis.specs.Common.Entries.{isLate, outcomeOf}
 use Rattle.release.specs.Rules.{isProtected, someOutside, grows, outcomeAt, growsAt, someGrows}
 use Rattle.release.specs.Answers.{isLoaded, decided, decision}
 
@@ -38,5 +40,5 @@ march backup levels =
 pub release-of-march : (decision (march 1 0x33) (march 40 0x33) 4 ≡ record { refusal = 0; loads = false })
     × (decision (march 1 0x33) (march 40 0x31) 4 ≡ record { refusal = 0; loads = true })
     × (decision (march 1 0x33) (march 40 0x31) 6 ≡ record { refusal = 0; loads = false })
-unfolding march orElse firstBelow someBelow filledBelow regrouped headerOf countOf editionOf intervalOf roundOf shareOf startOf sizeOf partOf recordFrom recordOf sheetRecord recordAt room tableOf outside wrongShare taken refusalOf recordRefusal recordsRefusal headerRefusal sheetRefusal up sumBelow mostBelow faultAt ownChoice others everyone backupOf largestBackup backupElsewhere backupFromFault supplierOf isBetween struckElsewhere struckItself firstFrom leastWithin timeElsewhere timeItself responseWithin responseTime isLate passes outcomeOf isProtected someOutside grows outcomeAt growsAt someGrows isLoaded decided decision
+unfolding march orElse firstBelow someBelow filledBelow regrouped headerOf countOf editionOf intervalOf roundOf shareOf startOf sizeOf partOf recordFrom recordOf sheetRecord recordAt room tableOf outside wrongShare taken refusalOf recordRefusal recordsRefusal headerRefusal sheetRefusal up sumBelow mostBelow faultAt ownChoice others everyone backupOf largestBackup backupElsewhere backupFromFault supplierOf isBetween askedElsewhere struckElsewhere askedItself struckItself firstFrom leastWithin timeElsewhere timeItself responseWithin responseTime isLate passes outcomeOf isProtected someOutside grows outcomeAt growsAt someGrows isLoaded decided decision
 release-of-march = (refl, refl, refl)

@@ -3,8 +3,8 @@ use Prim.Native.Nat.{ℕ, _<_}
 use mathlib.Core.Path.{_≡_, sym, ap, _∙_}
 use mathlib.Core.List.{List}
 use borrow.Author.Tests.{lt-ltb}
+use Rattle.places.specs.Refusals.{orElse}
 use Rattle.sheet.specs.declared.Table.{Table}
-use Rattle.sheet.specs.Places.{orElse}
 use Rattle.sheet.specs.declared.Reading.{Reading}
 use Rattle.sheet.specs.Layout.{tableOf}
 use Rattle.sheet.specs.Rules.{sheetRefusal, tableRefusal}
@@ -12,9 +12,10 @@ use Rattle.sheet.specs.Answers.{readAnswer}
 use Rattle.sheet.proofs.Demands.{table-good}
 use Rattle.analysis.specs.declared.Timed.{Timed}
 use Rattle.analysis.specs.declared.Assessment.{Assessment}
-use Rattle.analysis.specs.Response.{passes}
-use Rattle.analysis.specs.Answers.{timedRefusal, timedAnswer, entryOf, entryFrom, ownTasks, assessed, choiceAssessment, ownAssessment}
-use Rattle.analysis.proofs.Choice.{own-refusal}
+use Rattle.analysis.specs.Published.Response.{passes}
+use Rattle.analysis.specs.Published.Answers.{timedRefusal, timedAnswer, entryOf, choiceAssessment, ownAssessment}
+use Rattle.analysis.specs.Common.Entries.{entryFrom, ownTasks, assessed}
+use Rattle.analysis.proofs.Laws.Common.Choice.{own-refusal}
 use Rattle.release.specs.Rules.{outcomeAt}
 
 -- it is the record's own

@@ -8,8 +8,8 @@ use denote.Ref.{RefT, now}
 use Rattle.sheet.specs.declared.Table.{Table}
 use Rattle.sheet.specs.Layout.{tableOf}
 use Rattle.sheet.specs.Rules.{sheetRefusal}
-use Rattle.analysis.specs.Response.{passes}
-use Rattle.analysis.specs.Answers.{ownTasks}
+use Rattle.analysis.specs.Published.Response.{passes}
+use Rattle.analysis.specs.Common.Entries.{ownTasks}
 use Rattle.release.specs.declared.Decision.{Decision}
 use Rattle.release.specs.declared.Loading.{Loading}
 use Rattle.release.specs.Rules.{someOutside, someGrows}

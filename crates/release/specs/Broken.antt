@@ -3,8 +3,9 @@ use Prim.Native.Nat.{ℕ, _/_, _%_, _^_, _≤_, _<_}
 use mathlib.Core.Path.{_≡_}
 use mathlib.Core.Logic.{_⊎_}
 use mathlib.Core.List.{List, [], _∷_, _++_}
+use Rattle.places.specs.Refusals.{Row, row}
 use Rattle.sheet.specs.Layout.{tableOf}
-use Rattle.sheet.specs.Broken.{Row, row, RuleNumber, sheetRows}
+use Rattle.sheet.specs.Broken.{RuleNumber, sheetRows}
 
 -- the place's bit is set, "place 0 lowest"
 abbrev pub Protected : ℕ → ℕ → Type 0

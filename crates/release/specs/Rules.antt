@@ -2,13 +2,13 @@
 use Prim.Native.Nat.{ℕ, _/_, _%_, _^_}
 use mathlib.Core.Bool.{Bool, true, false, _&&_}
 use lib.Dec.{eqb, ltb, leb}
+use Rattle.places.specs.Places.{someBelow}
 use Rattle.sheet.specs.declared.Table.{Table}
 use Rattle.sheet.specs.Layout.{recordAt}
-use Rattle.sheet.specs.Places.{someBelow}
 use Rattle.analysis.specs.declared.Outcome.{Outcome}
 use Rattle.analysis.specs.declared.Outcome.the-variants.{OnTime, Late}
-use Rattle.analysis.specs.Response.{responseTime}
-use Rattle.analysis.specs.Answers.{outcomeOf, ownTasks}
+use Rattle.analysis.specs.Published.Response.{responseTime}
+use Rattle.analysis.specs.Common.Entries.{outcomeOf, ownTasks}
 
 -- "eight bits of protected places, place 0 lowest"
 unfoldable pub isProtected : ℕ → ℕ → Bool

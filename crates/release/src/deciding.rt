@@ -54,7 +54,10 @@ fn grows(before: Outcome, after: Outcome) -> bool
 
 // Whether the response at a place grows from the table in use to the candidate's.
 fn grows_at(old: Table, new: Table, place: usize) -> bool
-    requires { ⌜ (tableRefusal old ≡ 0) × (tableRefusal new ≡ 0) × (place < old .count) × (place < new .count) ⌝ }
+    requires good_old { ⌜ tableRefusal old ≡ 0 ⌝ }
+    requires good_new { ⌜ tableRefusal new ≡ 0 ⌝ }
+    requires in_old { ⌜ place < old .count ⌝ }
+    requires in_new { ⌜ place < new .count ⌝ }
     ensures { λ r. ⌜ r ≡ growsAt old new place ⌝ }
 {
     let first = analysis::response_time(old, place).entry;
@@ -66,7 +69,9 @@ fn grows_at(old: Table, new: Table, place: usize) -> bool
 
 // Whether some protected task's response grows.
 fn some_grows(old: Table, new: Table, protected: u8) -> bool
-    requires { ⌜ (tableRefusal old ≡ 0) × (tableRefusal new ≡ 0) × (old .count ≡ new .count) ⌝ }
+    requires good_old { ⌜ tableRefusal old ≡ 0 ⌝ }
+    requires good_new { ⌜ tableRefusal new ≡ 0 ⌝ }
+    requires same_count { ⌜ old .count ≡ new .count ⌝ }
     ensures { λ r. ⌜ r ≡ someGrows old new protected ⌝ }
 {
     let count = old.count as usize;
@@ -81,7 +86,8 @@ fn some_grows(old: Table, new: Table, protected: u8) -> bool
 
 // What is decided between two good tables.
 pub fn between(old: Table, new: Table, protected: u8) -> Decision
-    requires { ⌜ (tableRefusal old ≡ 0) × (tableRefusal new ≡ 0) ⌝ }
+    requires good_old { ⌜ tableRefusal old ≡ 0 ⌝ }
+    requires good_new { ⌜ tableRefusal new ≡ 0 ⌝ }
     ensures { λ r. ⌜ r ≡ decided old new protected ⌝ }
 {
     if old.count != new.count {

@@ -1,29 +1,8 @@
--- Laws that belong to no one function: places and bits; the machine's phases and who runs; logs; counts; what the calls answer; logs and records in pieces; the demands.
-pub mod Turns
-pub mod Found
-pub mod Counted
-pub mod Binary
-pub mod Eight
-pub mod Struck
-pub mod Chosen
-pub mod Ordered
-pub mod Ticked
-pub mod Levels
-pub mod Going
-pub mod Joined
-pub mod Countdown
-pub mod History
-pub mod Matched
-pub mod Order
-pub mod Placed
-pub mod Kept
-pub mod Added
-pub mod Answered
-pub mod Stepped
-pub mod Followed
+-- Laws that belong to no one function: `OfTicks`, of the machine tick by tick; `OfLogs`, of logs and records as bytes. Then what both serve: the zeros beside a refusal, rows worked through, that each call has one answer, and the demands of requests 1 and 7.
+pub mod OfTicks
+pub mod OfLogs
 pub mod Zeros
 pub mod Rows
 pub mod Unique
 pub mod Demands
 pub mod Records
-pub mod Pieced

@@ -1,4 +1,4 @@
--- Ask 7's demands in its own words, about the definitions that the promise of `check` cites. A record worked through is in Rows.antt. Assumes nothing.
+-- Request 7's demands in its own words, about the definitions that the promise of `check` cites. A record worked through is in Rows.antt. Assumes nothing.
 use Prim.Native.Nat.{ℕ, zero, suc, _+_, _-_, _*_, _/_, _%_, _≤_, _<_}
 use mathlib.Core.Path.{_≡_, refl, sym, ap, subst, _∙_}
 use mathlib.Core.Bool.{Bool, true, false, cond, not, _&&_}
@@ -9,27 +9,29 @@ use native.Mathlib.Omega.{arith}
 use borrow.Author.Tests.{eq-eqb, ne-eqb, le-leb, lt-leb}
 use lib.Dec.{eqb, leb}
 use lib.ListN.{length, getD}
-use Rattle.sheet.specs.Places.{orElse, joinedBelow}
+use Rattle.places.specs.Places.{joinedBelow, oneIf}
+use Rattle.places.specs.Refusals.{orElse, InOrder}
+use Rattle.places.proofs.Order.{Says}
 use Rattle.sheet.specs.Layout.{recordAt, tableOf}
-use Rattle.sheet.specs.Broken.{InOrder}
-use Rattle.sheet.proofs.Order.{Says}
+use Rattle.sheet.specs.Rules.{wholeSheetRefusal}
+use Rattle.sheet.specs.Broken.{wholeRows}
 use Rattle.replay.specs.declared.Cell.{Cell}
 use Rattle.replay.specs.declared.Tally.{Tally}
 use Rattle.replay.specs.declared.Machine.{Machine}
 use Rattle.replay.specs.declared.Checked.the-variants.{Refused, Accepted, Differs}
-use Rattle.replay.specs.Cells.{noCell, cellAt, oneIf}
-use Rattle.replay.specs.Counts.{cellOf, gains}
-use Rattle.replay.specs.Machines.{machineOf, cellsEntered, runnerOf, tickGains}
-use Rattle.replay.specs.Rules.{startRefusal, ticksRefusal}
-use Rattle.replay.specs.Shown.{logIn, shown, matching, suppliedRefusal}
-use Rattle.replay.specs.Answers.{replayRefusal, checkRefusal, checkAnswer}
-use Rattle.replay.specs.Positions.{ticksOf, releasesAt, faultsAt, tickRows, suppliedRows, LogNumber, startRows, ReplayNumber}
-use Rattle.replay.proofs.Going.{log-length, even-ticks}
-use Rattle.replay.proofs.Chosen.{runner-at-most}
-use Rattle.replay.proofs.History.{releases-shift, faults-shift}
-use Rattle.replay.proofs.Matched.{Shows, match-at-most, match-same, match-other, compared-refused, compared-accepted, compared-differs, accepted-only, differs-only, refused-only}
-use Rattle.replay.proofs.Answered.{supplied-cut, supplied-log}
-use Rattle.replay.proofs.Order.{length-first, ticks-say, both-in-order}
+use Rattle.replay.specs.Ticks.Cells.{noCell, cellAt}
+use Rattle.replay.specs.Ticks.Counts.{cellOf, gains}
+use Rattle.replay.specs.Ticks.Machines.{machineOf, cellsEntered, runnerOf, tickGains}
+use Rattle.replay.specs.Logs.Rules.{ticksRefusal}
+use Rattle.replay.specs.Logs.Shown.{logIn, shown, matching, suppliedRefusal}
+use Rattle.replay.specs.Logs.Answers.{replayRefusal, checkRefusal, checkAnswer}
+use Rattle.replay.specs.Logs.Positions.{ticksOf, releasesAt, faultsAt, tickRows, suppliedRows, LogNumber, ReplayNumber}
+use Rattle.replay.proofs.OfLogs.Going.{log-length, even-ticks}
+use Rattle.replay.proofs.OfTicks.Chosen.{runner-at-most}
+use Rattle.replay.proofs.OfLogs.History.{releases-shift, faults-shift}
+use Rattle.replay.proofs.OfLogs.Matched.{Shows, match-at-most, match-same, match-other, compared-refused, compared-accepted, compared-differs, accepted-only, differs-only, refused-only}
+use Rattle.replay.proofs.OfLogs.Answered.{supplied-cut, supplied-log}
+use Rattle.replay.proofs.OfLogs.Order.{length-first, ticks-say, both-in-order}
 use Rattle.replay.proofs.Demands.{started-free}
 
 -- a tick is counted as a byte shows it
@@ -52,20 +54,20 @@ module _ (m : Machine) (releases : ℕ) where
   unfolding cellOf
   shows-idle idle = omega (arith, idle, shows-as false (ap (λ (n : ℕ). cellOf (cellsEntered m releases) n .«is_backup») idle))
 
-  module _ (place : ℕ) (runs : runnerOf m releases ≡ place + 1) where
-    is-job : isBackup ≡ cellAt (cellsEntered m releases) place .«is_backup»
+  module _ (slot : ℕ) (runs : runnerOf m releases ≡ slot + 1) where
+    is-job : isBackup ≡ cellAt (cellsEntered m releases) slot .«is_backup»
     unfolding cellOf
     is-job =
-        let other : eqb (place + 1) 0 ≡ false = ne-eqb (place + 1) 0 (λ e. omega arith) in
-        let here : place + 1 - 1 ≡ place = omega arith in
+        let other : eqb (slot + 1) 0 ≡ false = ne-eqb (slot + 1) 0 (λ e. omega arith) in
+        let here : slot + 1 - 1 ≡ slot = omega arith in
         ap (λ (n : ℕ). cellOf (cellsEntered m releases) n .«is_backup») runs ∙ (λ i. cond (other i) noCell (cellAt (cellsEntered m releases) (here i)) .«is_backup»)
 
     -- "the priority of the task that ran"
-    pub shows-first : cellAt (cellsEntered m releases) place .«is_backup» ≡ false → shown m releases ≡ place + 1
+    pub shows-first : cellAt (cellsEntered m releases) slot .«is_backup» ≡ false → shown m releases ≡ slot + 1
     shows-first first = omega (arith, runs, shows-as false (is-job ∙ first))
 
     -- "with the top bit set for a backup"
-    pub shows-backup : cellAt (cellsEntered m releases) place .«is_backup» ≡ true → shown m releases ≡ 128 + (place + 1)
+    pub shows-backup : cellAt (cellsEntered m releases) slot .«is_backup» ≡ true → shown m releases ≡ 128 + (slot + 1)
     shows-backup backup = omega (arith, runs, shows-as true (is-job ∙ backup))
 
   at-most : runnerOf m releases ≤ 8
@@ -170,9 +172,9 @@ module _ (sheet supplied : List ℕ) where
   )
 
   -- "Refusals, over the whole record first: those of Ask 1 and 19": on a record of whole ticks they are those of a replay of the log that it contains
-  pub refusals-of-ask-1 : length supplied % 3 ≡ 0 → checkRefusal sheet supplied ≡ replayRefusal sheet (logIn supplied)
+  pub refusals-of-request-1 : length supplied % 3 ≡ 0 → checkRefusal sheet supplied ≡ replayRefusal sheet (logIn supplied)
   unfolding checkRefusal replayRefusal
-  refusals-of-ask-1 whole = ap (orElse (startRefusal sheet)) (supplied-log start supplied whole)
+  refusals-of-request-1 whole = ap (orElse (wholeSheetRefusal sheet)) (supplied-log start supplied whole)
 
   -- what the refusal of the record says of it
   supplied-says : Says LogNumber (suppliedRows (tableOf sheet .count) (tableOf sheet .interval) (recordAt (start .tasks)) supplied) (suppliedRefusal start supplied)
@@ -180,9 +182,9 @@ module _ (sheet supplied : List ℕ) where
   supplied-says =
       length-first (length supplied % 3) (λ whole. supplied-log start supplied whole ∙ even-ticks start (logIn supplied) (omega (arith, log-length supplied))) (supplied-cut start supplied)
       (subst (λ (n : ℕ). Says LogNumber (joinedBelow (tickRows (tableOf sheet .count) (tableOf sheet .interval) (recordAt (start .tasks)) (logIn supplied)) n) (ticksRefusal start (logIn supplied))) (log-ticks supplied)
-      (ticks-say start (logIn supplied) (λ place below. ap (λ (c : Cell). c .wait) (started-free place below)) refl))
+      (ticks-say start (logIn supplied) (λ slot below. ap (λ (c : Cell). c .wait) (started-free slot below)) refl))
 
   -- the refusal is the first rule broken: the sheet's own, 19, "14 now for a length that is not a multiple of three", then 15, 16 and 17 in the first tick that breaks one, read over positions in the log that the record contains
-  pub check-in-order : InOrder ReplayNumber (startRows sheet ++ suppliedRows (tableOf sheet .count) (tableOf sheet .interval) (recordAt (start .tasks)) supplied) (checkRefusal sheet supplied)
+  pub check-in-order : InOrder ReplayNumber (wholeRows sheet ++ suppliedRows (tableOf sheet .count) (tableOf sheet .interval) (recordAt (start .tasks)) supplied) (checkRefusal sheet supplied)
   unfolding checkRefusal
   check-in-order = both-in-order sheet supplied-says

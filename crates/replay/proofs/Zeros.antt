@@ -6,19 +6,19 @@ use mathlib.Core.List.{List, [], _∷_, _++_}
 use borrow.Author.Tests.{ne-eqb}
 use lib.Dec.{eqb}
 use lib.ListN.{length, replicate}
+use Rattle.places.specs.Places.{joinedBelow, oneIf}
 use Rattle.sheet.specs.declared.Record.{Record}
-use Rattle.sheet.specs.Places.{joinedBelow}
 use Rattle.sheet.specs.Layout.{recordAt}
 use Rattle.replay.specs.declared.Cell.{Cell}
 use Rattle.replay.specs.declared.Tally.{Tally}
 use Rattle.replay.specs.declared.Counts.{Counts}
 use Rattle.replay.specs.declared.Machine.{Machine}
 use Rattle.replay.specs.declared.Following.{Following}
-use Rattle.replay.specs.Cells.{cellAt, oneIf}
-use Rattle.replay.specs.Counts.{noCounts}
-use Rattle.replay.specs.Machines.{noMachine}
-use Rattle.replay.specs.Answers.{startAnswer, goOnAnswer, replayAnswer}
-use Rattle.replay.specs.Pieces.{replayedAnswer}
+use Rattle.replay.specs.Ticks.Cells.{cellAt}
+use Rattle.replay.specs.Ticks.Counts.{noCounts}
+use Rattle.replay.specs.Ticks.Machines.{noMachine}
+use Rattle.replay.specs.Logs.Answers.{startAnswer, goOnAnswer, replayAnswer}
+use Rattle.replay.specs.Logs.Pieces.{replayedAnswer}
 
 -- every figure of the seven counts
 abbrev pub figuresOf : Counts → List ℕ
@@ -36,7 +36,7 @@ tallyFigures t = t .«first_attempts» ∷ t .backups ∷ t .idle ∷ t .release
 
 unfoldable pub machineFigures : Machine → List ℕ
 machineFigures m =
-    m .count ∷ m .interval ∷ m .ready ∷ m .gap ∷ (tallyFigures (m .tally) ++ joinedBelow (λ place. taskFigures (recordAt (m .tasks) place) ++ cellFigures (cellAt (m .cells) place)) 8)
+    m .count ∷ m .interval ∷ m .ready ∷ m .gap ∷ (tallyFigures (m .tally) ++ joinedBelow (λ slot. taskFigures (recordAt (m .tasks) slot) ++ cellFigures (cellAt (m .cells) slot)) 8)
 
 abbrev pub AllZero : List ℕ → Type 0
 AllZero figures = figures ≡ replicate (length figures) 0

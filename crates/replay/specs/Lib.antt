@@ -1,14 +1,3 @@
--- What a reader of the crate's promises must believe, in the order of asks 1 and 7. `Positions` and `Totals` are what theorems speak of; no public promise cites them.
-pub mod Tick
-pub mod Cells
-pub mod Runner
-pub mod Bits
-pub mod Step
-pub mod Counts
-pub mod Machines
-pub mod Rules
-pub mod Shown
-pub mod Answers
-pub mod Pieces
-pub mod Positions
-pub mod Totals
+-- What a reader of the crate's promises must believe: `Ticks`, the machine tick by tick, which knows no log; then `Logs`, logs and records as bytes, whole and in pieces. Each file of the two says in which order to read on.
+pub mod Ticks
+pub mod Logs

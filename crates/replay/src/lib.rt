@@ -2,22 +2,21 @@
 // record shows what the machine does; both whole, or in pieces of any length.
 // Every call answers any bytes and any machine; a refusal gives its number, and zeros beside it.
 ghost use mathlib.Core.Path.{_≡_};
-ghost use Rattle.replay.specs.Machines.{countsOf};
-ghost use Rattle.replay.specs.Answers.{startAnswer, goOnAnswer, replayAnswer, checkAnswer};
-ghost use Rattle.replay.specs.Pieces.{beforeLog, beforeRecord, takenAnswer, replayedAnswer, checkedAnswer};
+ghost use Rattle.replay.specs.Ticks.Machines.{countsOf};
+ghost use Rattle.replay.specs.Logs.Answers.{startAnswer, goOnAnswer, replayAnswer, checkAnswer};
+ghost use Rattle.replay.specs.Logs.Pieces.{beforeLog, beforeRecord, takenAnswer, replayedAnswer, checkedAnswer};
+use crate::logs::checking;
+use crate::logs::going;
+use crate::logs::pieces;
+use crate::logs::rules;
+use crate::ticks::counting;
+use crate::ticks::ticking;
 use sheet::Record;
 
-mod bits;
-mod checking;
-mod counting;
 mod logs;
-mod phases;
-mod pieces;
-mod rules;
-mod runner;
-mod ticking;
+mod ticks;
 
-// The cell of a place: whether its job is a backup, the ticks of work that the job has left (0: there is no job), the ticks until its
+// The cell of a slot: whether its job is a backup, the ticks of work that the job has left (0: there is no job), the ticks until its
 // deadline, and the ticks until the next legal release.
 pub struct Cell {
     pub is_backup: bool,
@@ -47,9 +46,9 @@ pub struct Counts {
     pub unfinished: u64,
 }
 
-// The machine between two ticks: the count of tasks, the fault interval, the tasks by priority (place k is priority k + 1), the cells of
-// the places, the levels of their ready jobs as bits (level 8 the most significant), the ticks until the next legal fault, and what the
-// ticks so far come to. A call that runs ticks goes by the jobs, whatever levels it is handed.
+// The machine between two ticks: the count of tasks, the fault interval, the tasks by priority (slot k is priority k + 1), the cells of
+// the slots, the priorities of their ready jobs as bits (priority 8 the most significant), the ticks until the next legal fault, and what the
+// ticks so far come to. A call that runs ticks goes by the jobs, whatever priorities it is handed.
 pub struct Machine {
     pub count: u8,
     pub interval: u16,
@@ -99,15 +98,14 @@ impl Machine {
     pub fn start(sheet: &[u8]) -> Run
         ensures { λ r. ⌜ r ≡ startAnswer (now (sheet .entry)) ⌝ }
     {
-        let reading = sheet::read(sheet);
-        let table = reading.table;
-        let refusal = rules::judge_start(reading.refusal, table.round, table.share);
-        if refusal != 0 {
+        let reading = sheet::read_whole(sheet);
+        if reading.refusal != 0 {
             return Run {
-                refusal,
+                refusal: reading.refusal,
                 machine: ticking::no_machine(),
             };
         }
+        let table = reading.table;
         Run {
             refusal: 0,
             machine: ticking::machine_of(table),
@@ -124,7 +122,7 @@ impl Machine {
                 machine: ticking::no_machine(),
             };
         }
-        logs::go_over(ticking::tied(self), part, 2)
+        going::go_over(ticking::tied(self), part, 2)
     }
 
     // The seven counts of the ticks so far.

@@ -17,7 +17,7 @@ use Rattle.report.specs.declared.Name.{Name}
 use Rattle.report.specs.declared.Saying.{Saying}
 use Rattle.report.specs.Pages.{textOf, hasRoom, putEnd, putLeaves}
 use Rattle.report.specs.Decimal.{digit, decimal, signed, valueAfter, valueOf}
-use Rattle.report.specs.Texts.{namedText, sayingText, taskText, passText, coreText, changeText, refusedAtText}
+use Rattle.report.specs.Texts.{namedText, sayingText, taskText, choiceText, coreText, changeText, refusedAtText}
 use Rattle.report.proofs.Decimal.{by-digits, length-decimal}
 use Rattle.report.proofs.Fitting.{Held, held, length-word, length-saying, Narrow, length-outcome, length-entries, length-changed}
 
@@ -105,9 +105,9 @@ task-held place entry narrow short =
     held (taskText place entry) (simp length-append (omega (arith, length-decimal 2 (place + 1) (omega arith), length-outcome (entry .outcome) (entry .slack) short)))
 
 -- a choice's,
-pub pass-held : (count : ℕ) (choice : List ℕ) → ((place : ℕ) → getD choice place 0 < 2 ^ 8) → Held (passText count choice)
-unfolding passText
-pass-held count choice narrow = held (passText count choice) (simp length-append (omega (arith, length-entries choice narrow (min count 8))))
+pub choice-held : (count : ℕ) (choice : List ℕ) → ((place : ℕ) → getD choice place 0 < 2 ^ 8) → Held (choiceText count choice)
+unfolding choiceText
+choice-held count choice narrow = held (choiceText count choice) (simp length-append (omega (arith, length-entries choice narrow (min count 8))))
 
 -- a core's,
 pub core-held : (place core : ℕ) → place < 2 ^ 8 → core < 2 ^ 8 → Held (coreText place core)

@@ -7,7 +7,7 @@ use lib.IntN.{ℤ}
 use lib.Signed.{mag}
 use lib.ListN.{length, getD, take, replicate, length-append}
 use lib.Seq.{sets-eq, take-at}
-use Rattle.sheet.specs.Places.{joinedBelow}
+use Rattle.places.specs.Places.{joinedBelow}
 use Rattle.analysis.specs.declared.Outcome.{Outcome}
 use Rattle.analysis.specs.declared.Outcome.the-variants.{OnTime, Late}
 use Rattle.analysis.specs.declared.Slack.{Slack}

@@ -4,7 +4,7 @@ use mathlib.Core.Path.{_≡_, refl}
 use mathlib.Core.List.{List, [], _∷_}
 use lib.IntN.{pos, negsuc}
 use lib.ListN.{length}
-use Rattle.sheet.specs.Places.{joinedBelow}
+use Rattle.places.specs.Places.{joinedBelow}
 use Rattle.analysis.specs.declared.Outcome.the-variants.{OnTime, Late}
 use Rattle.analysis.specs.declared.Slack.{Slack}
 use Rattle.analysis.specs.declared.Slack.the-variants.{Figure, NoFigure}
@@ -16,7 +16,7 @@ use Rattle.report.specs.declared.Line.{Line}
 use Rattle.report.specs.declared.Name.the-variants.{Interval, Least, End, Refused, Attempts, Backups, Idle, Released, Finished, Missed, Unfinished, Differs, FitsNone}
 use Rattle.report.specs.declared.Saying.the-variants.{NoInterval, Accepted, LoadInUse, LoadCandidate}
 use Rattle.report.specs.Decimal.{decimalWithin, decimal, signed}
-use Rattle.report.specs.Texts.{lineOf, wordOf, namedText, sayingText, lateText, outcomeText, taskText, entryText, passText, coreText, changedText, changeText, refusedAtText}
+use Rattle.report.specs.Texts.{lineOf, wordOf, namedText, sayingText, lateText, outcomeText, taskText, entryText, choiceText, coreText, changedText, changeText, refusedAtText}
 use Rattle.report.specs.Pages.{textOf}
 
 -- three entries as a choice
@@ -58,9 +58,9 @@ lines =
     -- task 3 35\n
     prints (lineOf (taskText 2 (timed 35 0))) (116 ∷ 97 ∷ 115 ∷ 107 ∷ 32 ∷ 51 ∷ 32 ∷ 51 ∷ 53 ∷ 10 ∷ []) ∷
     -- pass 1 1 1\n
-    prints (lineOf (passText 3 (choice 1 1 1))) (112 ∷ 97 ∷ 115 ∷ 115 ∷ 32 ∷ 49 ∷ 32 ∷ 49 ∷ 32 ∷ 49 ∷ 10 ∷ []) ∷
+    prints (lineOf (choiceText 3 (choice 1 1 1))) (112 ∷ 97 ∷ 115 ∷ 115 ∷ 32 ∷ 49 ∷ 32 ∷ 49 ∷ 32 ∷ 49 ∷ 10 ∷ []) ∷
     -- pass 1 2 1\n
-    prints (lineOf (passText 3 (choice 1 2 1))) (112 ∷ 97 ∷ 115 ∷ 115 ∷ 32 ∷ 49 ∷ 32 ∷ 50 ∷ 32 ∷ 49 ∷ 10 ∷ []) ∷
+    prints (lineOf (choiceText 3 (choice 1 2 1))) (112 ∷ 97 ∷ 115 ∷ 115 ∷ 32 ∷ 49 ∷ 32 ∷ 50 ∷ 32 ∷ 49 ∷ 10 ∷ []) ∷
     -- end 2\n
     prints (lineOf (namedText End 2)) (101 ∷ 110 ∷ 100 ∷ 32 ∷ 50 ∷ 10 ∷ []) ∷
     -- refused 4\n
@@ -107,5 +107,5 @@ lines =
 
 -- each of them is what is printed
 pub lines-hold : All lines
-unfolding lines choice timed late change lineOf textOf namedText wordOf sayingText taskText outcomeText lateText passText entryText coreText changeText changedText refusedAtText joinedBelow signed decimal decimalWithin
+unfolding lines choice timed late change lineOf textOf namedText wordOf sayingText taskText outcomeText lateText choiceText entryText coreText changeText changedText refusedAtText joinedBelow signed decimal decimalWithin
 lines-hold = one refl refl (one refl refl (one refl refl (one refl refl (one refl refl (one refl refl (one refl refl (one refl refl (one refl refl (one refl refl (one refl refl (one refl refl (one refl refl (one refl refl (one refl refl (one refl refl (one refl refl (one refl refl (one refl refl (one refl refl (one refl refl (one refl refl (one refl refl (one refl refl (one refl refl (one refl refl (one refl refl (one refl refl none)))))))))))))))))))))))))))

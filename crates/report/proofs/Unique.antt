@@ -8,7 +8,7 @@ use Rattle.report.specs.declared.Line.{Line}
 use Rattle.report.proofs.named_line.Reads as named
 use Rattle.report.proofs.saying_line.Reads as saying
 use Rattle.report.proofs.task_line.Reads as task
-use Rattle.report.proofs.pass_line.Reads as pass
+use Rattle.report.proofs.choice_line.Reads as choice
 use Rattle.report.proofs.core_line.Reads as core
 use Rattle.report.proofs.change_line.Reads as change
 use Rattle.report.proofs.refused_at_line.Reads as refused-at
@@ -23,8 +23,8 @@ saying-line-unique κs args a b s u = both
 pub task-line-unique : (κs : Lfts 0) (args : _) (a b : Line) (s u : _) → task.Learnt κs args a s → task.Learnt κs args b u → a ≡ b
 task-line-unique κs args a b s u = both
 
-pub pass-line-unique : (κs : Lfts 0) (args : _) (a b : Line) (s u : _) → pass.Learnt κs args a s → pass.Learnt κs args b u → a ≡ b
-pass-line-unique κs args a b s u = both
+pub choice-line-unique : (κs : Lfts 0) (args : _) (a b : Line) (s u : _) → choice.Learnt κs args a s → choice.Learnt κs args b u → a ≡ b
+choice-line-unique κs args a b s u = both
 
 pub core-line-unique : (κs : Lfts 0) (args : _) (a b : Line) (s u : _) → core.Learnt κs args a s → core.Learnt κs args b u → a ≡ b
 core-line-unique κs args a b s u = both

@@ -3,7 +3,7 @@ use Prim.Native.Nat.{ℕ, _+_, min}
 use mathlib.Core.List.{List, _++_}
 use lib.ListN.{length, getD, replicate}
 use lib.Seq.{sets}
-use Rattle.sheet.specs.Places.{joinedBelow}
+use Rattle.places.specs.Places.{joinedBelow}
 use Rattle.analysis.specs.declared.Outcome.{Outcome}
 use Rattle.analysis.specs.declared.Outcome.the-variants.{OnTime, Late}
 use Rattle.analysis.specs.declared.Slack.{Slack}
@@ -101,8 +101,8 @@ unfoldable pub entryText : List ℕ → ℕ → List ℕ
 entryText choice place = space ++ decimal (getD choice place 0)
 
 -- "one line for each listed choice, entries in record order": the entries below the count, at most eight
-unfoldable pub passText : ℕ → List ℕ → List ℕ
-passText count choice = passWord ++ joinedBelow (entryText choice) (min count 8) ++ newline
+unfoldable pub choiceText : ℕ → List ℕ → List ℕ
+choiceText count choice = passWord ++ joinedBelow (entryText choice) (min count 8) ++ newline
 
 -- "a line for each record": its place from 1 and its core
 unfoldable pub coreText : ℕ → ℕ → List ℕ

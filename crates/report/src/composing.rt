@@ -54,7 +54,8 @@ pub fn begun(word: &[u8]) -> Line
 
 // A number below ten as its digit.
 fn with_digit(line: Line, number: u64) -> Line
-    requires { ⌜ (number < 10) × Room line 1 ⌝ }
+    requires digit { ⌜ number < 10 ⌝ }
+    requires room { ⌜ Room line 1 ⌝ }
     ensures { λ r. ⌜ r ≡ put line (digit number ∷ []) ⌝ }
 {
     with_byte(line, b'0' + number as u8)
@@ -74,7 +75,8 @@ pub fn with_number(line: Line, number: u64) -> Line
 // A word and a number after it.
 pub fn with_labelled(line: Line, word: &[u8], number: u64) -> Line
     requires { ⌜ Room line (length (now word) + 20) ⌝ }
-    ensures { λ r. ⌜ (r ≡ put line (now (word .entry) ++ decimal number)) × (r .len ≤ line .len + (length (now (word .entry)) + 20)) ⌝ }
+    ensures answer { λ r. ⌜ r ≡ put line (now (word .entry) ++ decimal number) ⌝ }
+    ensures bounded { λ r. ⌜ r .len ≤ line .len + (length (now (word .entry)) + 20) ⌝ }
 {
     with_number(with_word(line, word), number)
 }
@@ -82,7 +84,8 @@ pub fn with_labelled(line: Line, word: &[u8], number: u64) -> Line
 // A line that begins with a word and a number.
 pub fn labelled(word: &[u8], number: u64) -> Line
     requires { ⌜ length (now word) ≤ 19 ⌝ }
-    ensures { λ r. ⌜ (r ≡ lineOf (now (word .entry) ++ decimal number)) × (r .len ≤ length (now (word .entry)) + 20) ⌝ }
+    ensures answer { λ r. ⌜ r ≡ lineOf (now (word .entry) ++ decimal number) ⌝ }
+    ensures bounded { λ r. ⌜ r .len ≤ length (now (word .entry)) + 20 ⌝ }
 {
     with_number(begun(word), number)
 }
@@ -98,7 +101,8 @@ pub fn numbered(word: &[u8], number: u64) -> Line
 // How far a negative number is below 0.
 fn magnitude(number: i32) -> u64
     requires { ⌜ ltZ number (pos 0) ≡ true ⌝ }
-    ensures { λ r. ⌜ (r ≡ natAbs number) × (r ≤ 2147483648) ⌝ }
+    ensures answer { λ r. ⌜ r ≡ natAbs number ⌝ }
+    ensures bounded { λ r. ⌜ r ≤ 2147483648 ⌝ }
 {
     (0 - number as i64) as u64
 }
@@ -106,7 +110,8 @@ fn magnitude(number: i32) -> u64
 // A number in decimal, after a minus sign if it is negative.
 fn with_signed(line: Line, number: i32) -> Line
     requires { ⌜ Room line 11 ⌝ }
-    ensures { λ r. ⌜ (r ≡ put line (signed number)) × (r .len ≤ line .len + 11) ⌝ }
+    ensures answer { λ r. ⌜ r ≡ put line (signed number) ⌝ }
+    ensures bounded { λ r. ⌜ r .len ≤ line .len + 11 ⌝ }
 {
     if number < 0 {
         return with_number(with_byte(line, b'-'), magnitude(number));
@@ -117,7 +122,8 @@ fn with_signed(line: Line, number: i32) -> Line
 // The word late, and after it the slack where there is one.
 fn with_late(line: Line, slack: Slack) -> Line
     requires { ⌜ Room line 16 ⌝ }
-    ensures { λ r. ⌜ (r ≡ put line (lateText slack)) × (r .len ≤ line .len + 16) ⌝ }
+    ensures answer { λ r. ⌜ r ≡ put line (lateText slack) ⌝ }
+    ensures bounded { λ r. ⌜ r .len ≤ line .len + 16 ⌝ }
 {
     match slack {
         Slack::Figure(ticks) => with_signed(with_word(line, b"late "), ticks),
@@ -128,7 +134,8 @@ fn with_late(line: Line, slack: Slack) -> Line
 // A response, or that it is late and by how much.
 pub fn with_outcome(line: Line, outcome: Outcome, slack: Slack) -> Line
     requires { ⌜ Room line 16 ⌝ }
-    ensures { λ r. ⌜ (r ≡ put line (outcomeText outcome slack)) × (r .len ≤ line .len + 16) ⌝ }
+    ensures answer { λ r. ⌜ r ≡ put line (outcomeText outcome slack) ⌝ }
+    ensures bounded { λ r. ⌜ r .len ≤ line .len + 16 ⌝ }
 {
     match outcome {
         Outcome::OnTime(time) => with_number(line, time as u64),
@@ -139,7 +146,8 @@ pub fn with_outcome(line: Line, outcome: Outcome, slack: Slack) -> Line
 // An entry of a choice, after a space.
 pub fn with_entry(line: Line, entry: u8) -> Line
     requires { ⌜ Room line 4 ⌝ }
-    ensures { λ r. ⌜ (r ≡ put line (space ++ decimal entry)) × (r .len ≤ line .len + 4) ⌝ }
+    ensures answer { λ r. ⌜ r ≡ put line (space ++ decimal entry) ⌝ }
+    ensures bounded { λ r. ⌜ r .len ≤ line .len + 4 ⌝ }
 {
     with_number(with_word(line, b" "), entry as u64)
 }
@@ -153,7 +161,8 @@ pub fn entries(count: u8) -> usize
 
 // What a change is made to: the length, or a record's field.
 pub fn changed(place: u8, field: Field) -> Line
-    ensures { λ r. ⌜ (r ≡ lineOf (changedText place field)) × (r .len ≤ 42) ⌝ }
+    ensures answer { λ r. ⌜ r ≡ lineOf (changedText place field) ⌝ }
+    ensures bounded { λ r. ⌜ r .len ≤ 42 ⌝ }
 {
     match field {
         Field::Length => begun(b"length"),

@@ -1,6 +1,6 @@
 // The program's lines as bytes: one call for each kind of line, which answers any arguments with the whole line and its newline, and one that puts a line into an output.
 ghost use mathlib.Core.Path.{_≡_};
-ghost use Rattle.report.specs.Texts.{lineOf, namedText, sayingText, taskText, passText, coreText, changeText, refusedAtText};
+ghost use Rattle.report.specs.Texts.{lineOf, namedText, sayingText, taskText, choiceText, coreText, changeText, refusedAtText};
 ghost use Rattle.report.specs.Pages.{putEnd, putLeaves};
 use analysis::Entry;
 use mend::Change;
@@ -87,8 +87,8 @@ pub fn task_line(place: u8, entry: Entry) -> Line
 }
 
 // A choice that passes: as many of its entries as the count says, at most eight.
-pub fn pass_line(count: u8, choice: [u8; 8]) -> Line
-    ensures { λ r. ⌜ r ≡ lineOf (passText count choice) ⌝ }
+pub fn choice_line(count: u8, choice: [u8; 8]) -> Line
+    ensures { λ r. ⌜ r ≡ lineOf (choiceText count choice) ⌝ }
 {
     let entries = composing::entries(count);
     let mut line = composing::begun(b"pass");
@@ -132,7 +132,8 @@ pub fn refused_at_line(refusal: u8, line: u64, column: u64) -> Line
 
 // Puts a line's text into the output from a place on: where it ends, or the place itself where it has no room, and then nothing is put.
 pub fn put_line(line: Line, out: &mut [u8], at: usize) -> usize
-    ensures { λ r. ⌜ (r ≡ putEnd line (now (out .entry)) at) × (now (out .exit) ≡ putLeaves line (now (out .entry)) at) ⌝ }
+    ensures answer { λ r. ⌜ r ≡ putEnd line (now (out .entry)) at ⌝ }
+    ensures left { λ _. ⌜ now (out .exit) ≡ putLeaves line (now (out .entry)) at ⌝ }
 {
     let bytes = line.bytes;
     let size = page::text_size(line.len);

@@ -24,7 +24,8 @@ pub fn fits(size: usize, length: usize, at: usize) -> bool
 
 // Puts the first bytes from a place on.
 pub fn copy(out: &mut [u8], at: usize, bytes: [u8; 88], size: usize)
-    requires { ⌜ (size ≤ 88) × (at + size ≤ length (now out)) ⌝ }
+    requires within { ⌜ size ≤ 88 ⌝ }
+    requires room { ⌜ at + size ≤ length (now out) ⌝ }
     ensures { λ _. ⌜ now (out .exit) ≡ sets (now (out .entry)) at (take size bytes) ⌝ }
 {
     let mut place: usize = 0;

@@ -4,9 +4,9 @@ use mathlib.Core.Bool.{cond}
 use mathlib.Core.List.{List, [], _∷_}
 use lib.Dec.{ltb}
 use lib.ListN.{getD, set, replicate}
+use Rattle.places.specs.Places.{filledBelow}
 use Rattle.sheet.specs.declared.Record.{Record}
 use Rattle.sheet.specs.declared.Table.{Table}
-use Rattle.sheet.specs.Places.{filledBelow}
 use Rattle.rows.specs.Lists.{figureOf}
 
 -- the figures of a base's only row, each in sixteen bits, and 1 for the round and the share

@@ -1,5 +1,5 @@
-// What the programs that run rows share. A row stands on a line of its own in the list that such a program reads:
-// a letter for its form, the figures that it starts from, a bar, its name, a bar, and what is to be answered, as it is to be written.
+// Rows: a row stands on a line of its own in the list that the program which runs it reads:
+// letters for what it is about and for its form, the figures that it starts from, a bar, its name, a bar, and what is to be answered, as it is to be written.
 // Every call answers any list. What a call writes goes to standard output and is no part of its answer: where a part of an answer
 // ends in the list, a figure of a row, a table, or the tally; of a part that does not stand in the list the end is `MISSED`.
 mod list;
@@ -49,7 +49,7 @@ pub fn next(list: &[u8], start: usize) -> usize
     list::after(list, start, b'\n')
 }
 
-// The byte at a place, or 0 past the end. At a row's place stands the letter of its form.
+// The byte at a place, or 0 past the end. At a row's place stands its first letter.
 pub fn byte(list: &[u8], place: usize) -> u8
     ensures { λ r. ⌜ r ≡ getD (now (list .entry)) place 0 ⌝ }
 {

@@ -31,7 +31,8 @@ fn short(figure: u64) -> u16
 
 // The place of a field by its number, or 0, where no field stands.
 fn slot(field: u64) -> usize
-    ensures { λ r. ⌜ (r ≡ slotOf field) × (r < 53) ⌝ }
+    ensures answer { λ r. ⌜ r ≡ slotOf field ⌝ }
+    ensures bounded { λ r. ⌜ r < 53 ⌝ }
 {
     if field < 53 { field as usize } else { 0 }
 }

@@ -3,30 +3,31 @@ use Prim.Native.Nat.{ℕ, zero, suc, _+_, _-_, _≤_, _<_}
 use mathlib.Core.Path.{_≡_, refl, sym, ap, _∙_}
 use mathlib.Core.Bool.{Bool, true, false, cond, true≢false, and-false}
 use mathlib.Core.List.{List, [], _∷_}
+use mathlib.Mathlib.Data.Bool.Basic.{eq-false-of-not-eq-true}
 use native.Mathlib.Decide.{ℕ-discrete}
 use native.Mathlib.Omega.{arith}
 use borrow.Author.Tests.{eqb-true}
+use Rattle.places.proofs.Tells.{both-true}
+use Rattle.places.proofs.Counted.{count-none}
+use Rattle.places.proofs.Refusals.{first-all}
 use Rattle.sheet.specs.Layout.{recordAt}
 use Rattle.sheet.specs.declared.Record.{Record}
-use Rattle.sheet.proofs.Turns.{first-all}
 use Rattle.replay.specs.declared.Cell.{Cell}
 use Rattle.replay.specs.declared.Machine.{Machine}
-use Rattle.replay.specs.Tick.{isReleased, isMarked}
-use Rattle.replay.specs.Cells.{cellAt, isReady}
-use Rattle.replay.specs.Step.{released, entered, runs, isMissed, isLast, ended, gapAfter}
-use Rattle.replay.specs.Machines.{cellsEntered, runnerOf, cellsRan, tickGains, tick}
-use Rattle.replay.specs.Rules.{tickRefusal, ticksRefusal}
-use Rattle.replay.specs.Positions.{ticksOf, releasesAt, faultsAt}
-use Rattle.replay.specs.Counts.{gains}
-use Rattle.replay.specs.Totals.{machineAt, plus, totalsOver}
-use Rattle.replay.proofs.Found.{and-both, not-holds}
-use Rattle.replay.proofs.Counted.{count-none}
-use Rattle.replay.proofs.Countdown.{countdown, reaches}
-use Rattle.replay.proofs.Struck.{others-kept}
-use Rattle.replay.proofs.Ordered.{runs-first}
-use Rattle.replay.proofs.Ticked.{entered-at, ran-at, after-at, wait-after}
-use Rattle.replay.proofs.Kept.{GoodTasks, legal}
-use Rattle.replay.proofs.History.{refusalAt, ticks-first, releases-shift, faults-shift, machine-shift, tasks-same, count-same, rest-counts}
+use Rattle.replay.specs.Ticks.Tick.{isReleased, isMarked}
+use Rattle.replay.specs.Ticks.Cells.{cellAt, isReady}
+use Rattle.replay.specs.Ticks.Step.{released, entered, runs, isMissed, isLast, ended, gapAfter}
+use Rattle.replay.specs.Ticks.Machines.{cellsEntered, runnerOf, cellsRan, tickGains, tick}
+use Rattle.replay.specs.Logs.Rules.{tickRefusal, ticksRefusal}
+use Rattle.replay.specs.Logs.Positions.{ticksOf, releasesAt, faultsAt}
+use Rattle.replay.specs.Ticks.Counts.{gains}
+use Rattle.replay.specs.Logs.Totals.{machineAt, plus, totalsOver}
+use Rattle.replay.proofs.OfLogs.Countdown.{countdown, reaches}
+use Rattle.replay.proofs.OfTicks.Struck.{others-kept}
+use Rattle.replay.proofs.OfTicks.Ordered.{runs-first}
+use Rattle.replay.proofs.OfTicks.Ticked.{entered-at, ran-at, after-at, wait-after}
+use Rattle.replay.proofs.OfLogs.Kept.{GoodTasks, legal}
+use Rattle.replay.proofs.OfLogs.History.{refusalAt, ticks-first, releases-shift, faults-shift, machine-shift, tasks-same, count-same, rest-counts}
 use Rattle.runs.specs.Ticks.{cellIn, missesAt, finishesAt, ReleasedAt}
 use Rattle.runs.proofs.Window.{ready-left, Spaced, Tick, Lowered, Enough, Window, window-kept, none-missed, runs-within}
 
@@ -82,18 +83,18 @@ module _ (m : Machine) (releases faults : ℕ) (sound : Sound m) (kept : tickRef
   empty-ran : (place : ℕ) → m .count ≤ place → place < 8 → cellAt (cellsRan m releases faults) place .left ≡ 0
   unfolding entered runs runnerOf
   empty-ran place past below =
-      let quiet = not-holds (isReleased releases place) (λ here. omega (arith, legal m releases faults kept .below place here)) in
+      let quiet = eq-false-of-not-eq-true {b = isReleased releases place} (λ here. omega (arith, legal m releases faults kept .below place here)) in
       let same : cellAt (cellsEntered m releases) place ≡ cellAt (m .cells) place = entered-at m releases place below ∙ ap (λ (b : Bool). cond b (released (recordAt (m .tasks) place)) (cellAt (m .cells) place)) quiet in
       let none : cellAt (cellsEntered m releases) place .left ≡ 0 = ap (λ (c : Cell). c .left) same ∙ sound .empty place past below in
-      let idle = not-holds (runs (runnerOf m releases) place)
-      (λ mine. omega (arith, none, ready-left (cellAt (cellsEntered m releases) place) (runs-first (recordAt (m .tasks)) (cellAt (cellsEntered m releases)) (sound .good .levels) place (sym (eqb-true (place + 1) (runnerOf m releases) mine)) .ready))) in
+      let idle = eq-false-of-not-eq-true {b = runs (runnerOf m releases) place}
+      (λ mine. omega (arith, none, ready-left (cellAt (cellsEntered m releases) place) (runs-first (recordAt (m .tasks)) (cellAt (cellsEntered m releases)) (sound .good .priorities) place (sym (eqb-true (place + 1) (runnerOf m releases) mine)) .ready))) in
       ap (λ (c : Cell). c .left) (ran-at m releases faults place below ∙ others-kept (recordAt (m .tasks)) (isMarked faults) (runnerOf m releases) (cellAt (cellsEntered m releases)) place idle) ∙ none
 
   pub sound-kept : Sound (tick m releases faults)
   unfolding tick gapAfter ended
   sound-kept =
       record {
-        good = record { each = sound .good .each; levels = sound .good .levels };
+        good = record { each = sound .good .each; priorities = sound .good .priorities };
         lowered = sound .lowered;
         waits = waits-end;
         gap = go (isMarked faults);
@@ -166,7 +167,7 @@ module _ (m : Machine) (log : List ℕ) (sound : Sound m) (passed : ticksRefusal
           let held = sound-at time (omega arith) in
           let was = open-at time (omega arith) in
           runs-within (recordAt (here .tasks)) (here .interval) i backup L (releasesAt log time) (isMarked (faultsAt log time)) (here .gap) _ _ _ _ (tick-known here (releasesAt log time) (faultsAt log time) held (refusal-none time within)) (held .lowered) (was .enough) (was .window)
-          (and-both (runs (runnerOf here (releasesAt log time)) i) _ done .0)
+          (both-true (runs (runnerOf here (releasesAt log time)) i) _ done .0)
 
       pub finished-within : cellAt (m .cells) i .rest ≡ 0 → finishesAt m log i time ≡ true → (release : ℕ) × ReleasedAt log i time release × (time < release + L)
       unfolding entered

@@ -1,44 +1,44 @@
--- Ask 12 in its own words, about the definitions that the public calls promise, as the case q = p of the theorem about the equation "low". A replay that is not refused has a good sheet for the whole processor and a log that keeps ask 1's rules; nothing else is asked of the log, and its length has no bound. Assumes nothing.
+-- Ask 12 in its own words, about the definitions that the public calls promise, as the case q = p of the theorem about the assured equation. A replay that is not refused has a good sheet for the whole processor and a log that keeps ask 1's rules; nothing else is asked of the log, and its length has no bound. Assumes nothing.
 use Prim.Native.Nat.{ℕ, _+_, _-_, _%_, _^_, _≤_, _<_}
 use mathlib.Core.Path.{_≡_, refl, sym, ap, subst, _∙_}
 use mathlib.Core.Bool.{Bool, true, false, cond, true≢false}
 use mathlib.Core.List.{List}
+use mathlib.Mathlib.Data.Bool.Basic.{eq-false-of-not-eq-true}
 use native.Mathlib.Decide.{decLt}
 use native.Mathlib.Omega.{arith}
 use borrow.Author.Tests.{eqb-false, ltb-false, lt-ltb}
 use lib.Dec.{eqb, ltb}
+use Rattle.places.specs.Places.{countBelow}
+use Rattle.places.specs.Refusals.{orElse}
+use Rattle.places.proofs.Tells.{neither}
+use Rattle.places.proofs.Onto.{onto}
+use Rattle.places.proofs.Refusals.{next-of}
 use Rattle.sheet.specs.declared.Table.{Table}
-use Rattle.sheet.specs.Places.{orElse}
-use Rattle.sheet.specs.Layout.{recordAt, tableOf, isWhole}
+use Rattle.sheet.specs.Layout.{recordAt, tableOf}
 use Rattle.sheet.specs.Rules.{sheetRefusal, tableRefusal}
 use Rattle.sheet.proofs.Cases.{good-table}
 use Rattle.sheet.proofs.Demands.{table-good}
-use Rattle.sheet.proofs.Editions.{neither}
-use Rattle.sheet.proofs.Onto.{onto}
-use Rattle.sheet.proofs.Tells.{Tells, holds, fails}
-use Rattle.sheet.proofs.Turns.{none-of, next-of}
-use Rattle.analysis.specs.Tasks.{Tasks, ownChoice}
+use Rattle.analysis.specs.Common.Tasks.{Tasks, ownChoice}
 use Rattle.analysis.specs.declared.Outcome.the-variants.{OnTime, Late}
-use Rattle.analysis.specs.Response.{responseTime, isLate, late, passes}
-use Rattle.analysis.specs.Answers.{outcomeOf, entryFrom, entryOf, ownTasks, timedRefusal, timedAnswer, choiceRefusal, assessed, choiceAssessment, ownAssessment}
-use Rattle.analysis.specs.Low.{low, lowWithin}
-use Rattle.analysis.proofs.Climbing.{Least, least-says}
+use Rattle.analysis.specs.Published.Response.{responseTime, late, passes}
+use Rattle.analysis.specs.Common.Entries.{isLate, outcomeOf, entryFrom, ownTasks, assessed}
+use Rattle.analysis.specs.Published.Answers.{entryOf, timedRefusal, timedAnswer, choiceRefusal, choiceAssessment, ownAssessment}
+use Rattle.analysis.specs.Assured.Equation.{assuredEquation}
+use Rattle.analysis.specs.Assured.Time.{assuredWithin}
+use Rattle.analysis.proofs.Laws.Common.Climbing.{Least, least-says}
 use Rattle.analysis.proofs.Demands.{passes-exactly}
-use Rattle.analysis.proofs.Raised.{low-response}
+use Rattle.analysis.proofs.Laws.Assured.Raised.{assured-response}
 use Rattle.replay.specs.declared.Cell.{Cell}
 use Rattle.replay.specs.declared.Counts.{Counts}
 use Rattle.replay.specs.declared.Machine.{Machine}
-use Rattle.replay.specs.Cells.{countBelow}
-use Rattle.replay.specs.Counts.{gains, added, countsFrom}
-use Rattle.replay.specs.Machines.{machineOf, tickGains}
-use Rattle.replay.specs.Rules.{sharedRefusal, startRefusal, ticksRefusal, logRefusal}
-use Rattle.replay.specs.Answers.{replayRefusal, replayAnswer}
-use Rattle.replay.specs.Positions.{ticksOf, releasesAt, faultsAt}
-use Rattle.replay.specs.Totals.{machineAt}
-use Rattle.replay.proofs.Found.{not-holds}
-use Rattle.replay.proofs.Joined.{accepted}
-use Rattle.replay.proofs.Kept.{done-count}
-use Rattle.replay.proofs.Order.{whole-tells}
+use Rattle.replay.specs.Ticks.Counts.{gains, added, countsFrom}
+use Rattle.replay.specs.Ticks.Machines.{machineOf, tickGains}
+use Rattle.replay.specs.Logs.Rules.{ticksRefusal}
+use Rattle.replay.specs.Logs.Answers.{replayRefusal, replayAnswer}
+use Rattle.replay.specs.Logs.Positions.{ticksOf, releasesAt, faultsAt}
+use Rattle.replay.specs.Logs.Totals.{machineAt}
+use Rattle.replay.proofs.OfLogs.Joined.{accepted}
+use Rattle.replay.proofs.OfLogs.Kept.{done-count}
 use Rattle.replay.proofs.Demands.{sheet-passed, log-passed, counts-wrap}
 use Rattle.runs.specs.Raised.{EachRaised}
 use Rattle.runs.specs.Ticks.{placeOf, cellIn, missesAt, finishesAt, ReleasedAt}
@@ -47,11 +47,11 @@ use Rattle.runs.proofs.Along.{Sound, sound-at, past-misses-none, misses
 use Rattle.runs.proofs.Started.{free, sound-start, open-start}
 
 -- the least L within a limit, where there is one, is at least what is asked of it
-pub low-fits : (limit : ℕ) (s : Tasks) (i : ℕ) → 1 ≤ lowWithin limit s i → low s i (lowWithin limit s i) ≤ lowWithin limit s i
-unfolding lowWithin
-low-fits limit s i some = go (least-says (low s i) 1 limit) some
+pub equation-fits : (limit : ℕ) (s : Tasks) (i : ℕ) → 1 ≤ assuredWithin limit s i → assuredEquation s i (assuredWithin limit s i) ≤ assuredWithin limit s i
+unfolding assuredWithin
+equation-fits limit s i some = go (least-says (assuredEquation s i) 1 limit) some
   where
-    go : {r : ℕ} → Least (low s i) 1 limit r → 1 ≤ r → low s i r ≤ r
+    go : {r : ℕ} → Least (assuredEquation s i) 1 limit r → 1 ≤ r → assuredEquation s i r ≤ r
     go (Least.none short) there = absurd (omega arith)
     go (Least.least first last fits short) there = fits
 
@@ -106,64 +106,56 @@ module _ (sheet log : List ℕ) (not-refused : replayAnswer sheet log .refusal �
   unfolding missesAt cellIn tickGains gains
   misses-counted time = refl
 
-  -- Under any fault priorities, each at most its priority: for a task whose equation "low" has some value L within its deadline
-  module _ (j : ℕ) (below : j < table .count) (L : ℕ) (fits : low tasks j L ≤ L) (timely : L ≤ recordAt (table .records) j .deadline) where
+  -- Under any fault priorities, each at most its priority: for a task whose assured equation has some value L within its deadline
+  module _ (j : ℕ) (below : j < table .count) (L : ℕ) (fits : assuredEquation tasks j L ≤ L) (timely : L ≤ recordAt (table .records) j .deadline) where
     -- no job of the task is missed in any tick
-    pub low-misses-none : (time : ℕ) → time < ticksOf log → missesAt start log (placeOf table j) time ≡ false
-    low-misses-none = misses-none start log sound kept (placeOf table j) _ L (open-start sheet good j below L fits timely)
+    pub equation-misses-none : (time : ℕ) → time < ticksOf log → missesAt start log (placeOf table j) time ≡ false
+    equation-misses-none = misses-none start log sound kept (placeOf table j) _ L (open-start sheet good j below L fits timely)
 
     -- and each that is finished is done within L ticks of its release, the release tick being the first
-    pub low-finished-within : (time : ℕ) → time < ticksOf log → finishesAt start log (placeOf table j) time ≡ true → (release : ℕ) × ReleasedAt log (placeOf table j) time release × (time < release + L)
-    low-finished-within time within done =
+    pub equation-finished-within : (time : ℕ) → time < ticksOf log → finishesAt start log (placeOf table j) time ≡ true → (release : ℕ) × ReleasedAt log (placeOf table j) time release × (time < release + L)
+    equation-finished-within time within done =
         let opened = open-start sheet good j below L fits timely in
         finished-within start log sound kept (placeOf table j) _ L opened time within
         (ap (λ (c : Cell). c .rest) (free sheet good (placeOf table j) (opened .enough .here))) done
 
   -- every task has a value within its deadline
-  abbrev EachLow : Type 0
-  EachLow = (j : ℕ) → j < table .count → (L : ℕ) × (low tasks j L ≤ L) × (L ≤ recordAt (table .records) j .deadline)
+  abbrev EachEnough : Type 0
+  EachEnough = (j : ℕ) → j < table .count → (L : ℕ) × (assuredEquation tasks j L ≤ L) × (L ≤ recordAt (table .records) j .deadline)
 
   -- where each task has such a value, no tick misses a job at any place
-  pub low-nowhere-missed : EachLow → (place time : ℕ) → place < 8 → time < ticksOf log → missesAt start log place time ≡ false
+  pub equation-nowhere-missed : EachEnough → (place time : ℕ) → place < 8 → time < ticksOf log → missesAt start log place time ≡ false
   unfolding machineOf
-  low-nowhere-missed each place time below within = go (decLt place (table .count))
+  equation-nowhere-missed each place time below within = go (decLt place (table .count))
     where
       go : Dec (place < table .count) → missesAt start log place time ≡ false
       go (yes low-place) =
           let found = onto (table .count) (placeOf table) (places sheet good) place low-place in
           let value = each (found .0) (found .1) in
-          subst (λ (k : ℕ). missesAt start log k time ≡ false) (found .2) (low-misses-none (found .0) (found .1) (value .0) (value .1) (value .2) time within)
+          subst (λ (k : ℕ). missesAt start log k time ≡ false) (found .2) (equation-misses-none (found .0) (found .1) (value .0) (value .1) (value .2) time within)
       go (no past) = past-misses-none start log sound kept place time (omega arith) below within
 
   -- and the count of missed jobs is 0
-  pub low-none-missed : EachLow → replayAnswer sheet log .counts .missed ≡ 0
+  pub equation-none-missed : EachEnough → replayAnswer sheet log .counts .missed ≡ 0
   unfolding countsFrom added
-  low-none-missed each = ap (λ (c : Counts). c .missed) (counts-wrap sheet log passed) ∙ ap (λ (n : ℕ). (0 + n) % 2 ^ 64) (none-total start log (low-nowhere-missed each))
-
-  whole : table .round ≡ table .share
-  unfolding replayRefusal startRefusal sharedRefusal
-  whole = go (isWhole (table .round) (table .share)) (whole-tells (table .round) (table .share)) (none-of (sheetRefusal sheet) (sharedRefusal table) (none-of (startRefusal sheet) (logRefusal start log) passed .0) .1)
-    where
-      go : (b : Bool) → Tells ((table .round ≡ 1) × (table .share ≡ 1)) b → _≡_ {A = ℕ} (cond b 0 19) 0 → table .round ≡ table .share
-      go b (holds w) e = omega (arith, w)
-      go b (fails n) e = absurd (omega arith)
+  equation-none-missed each = ap (λ (c : Counts). c .missed) (counts-wrap sheet log passed) ∙ ap (λ (n : ℕ). (0 + n) % 2 ^ 64) (none-total start log (equation-nowhere-missed each))
 
   -- For a task whose q is its p, whatever those of the others are
   module _ (j : ℕ) (below : j < table .count) (raised : recordAt (table .records) j .«fault_priority» ≡ recordAt (table .records) j .priority) where
-    -- its time by "low" is its response time
-    pub raised-response : lowWithin 65535 tasks j ≡ responseTime tasks j
+    -- its assured time is its response time
+    pub raised-response : assuredWithin 65535 tasks j ≡ responseTime tasks j
     unfolding responseTime
     raised-response =
         let known = good-table table (table-good sheet good) in
-        low-response tasks j below whole (let some = known .interval in omega arith) (fault-own sheet good j below ∙ raised)
+        assured-response tasks j below (let some = known .interval in omega arith) (fault-own sheet good j below ∙ raised)
         (λ k low-k. omega (arith, fault-own sheet good k low-k, record-good sheet good k low-k .fault))
         (λ k low-k same. places sheet good .apart k j low-k below (ap (λ (n : ℕ). n - 1) same)) 65535
 
     -- which is a value within the deadline where the task is not late
-    response-value : late tasks j ≡ false → (low tasks j (responseTime tasks j) ≤ responseTime tasks j) × (responseTime tasks j ≤ recordAt (table .records) j .deadline)
+    response-value : late tasks j ≡ false → (assuredEquation tasks j (responseTime tasks j) ≤ responseTime tasks j) × (responseTime tasks j ≤ recordAt (table .records) j .deadline)
     response-value is =
         let known = on-time-within (recordAt (table .records) j .deadline) (responseTime tasks j) is in
-        (subst (λ (n : ℕ). low tasks j n ≤ n) raised-response (low-fits 65535 tasks j (omega (arith, raised-response, known .0))), known .1)
+        (subst (λ (n : ℕ). assuredEquation tasks j n ≤ n) raised-response (equation-fits 65535 tasks j (omega (arith, raised-response, known .0))), known .1)
 
     -- Where `response_time` gives it a figure
     module _ (R : ℕ) (figure : timedAnswer table j .entry .outcome ≡ OnTime R) where
@@ -175,20 +167,20 @@ module _ (sheet log : List ℕ) (not-refused : replayAnswer sheet log .refusal �
           let outcome : outcomeOf (recordAt (table .records) j .deadline) (responseTime tasks j) ≡ OnTime R = simp asked at figure in
           outcome-time (recordAt (table .records) j .deadline) (responseTime tasks j) R outcome
 
-      figure-value : (low tasks j R ≤ R) × (R ≤ recordAt (table .records) j .deadline)
-      figure-value = subst (λ (n : ℕ). (low tasks j n ≤ n) × (n ≤ recordAt (table .records) j .deadline)) (figure-time .1) (response-value (figure-time .0))
+      figure-value : (assuredEquation tasks j R ≤ R) × (R ≤ recordAt (table .records) j .deadline)
+      figure-value = subst (λ (n : ℕ). (assuredEquation tasks j n ≤ n) × (n ≤ recordAt (table .records) j .deadline)) (figure-time .1) (response-value (figure-time .0))
 
       -- no job of the task is missed
       pub task-misses-none : (time : ℕ) → time < ticksOf log → missesAt start log (placeOf table j) time ≡ false
-      task-misses-none = low-misses-none j below R (figure-value .0) (figure-value .1)
+      task-misses-none = equation-misses-none j below R (figure-value .0) (figure-value .1)
 
       -- and each that is finished is "done within its task's response time from its release": the figure bounds what any log can show
       pub finished-within-response : (time : ℕ) → time < ticksOf log → finishesAt start log (placeOf table j) time ≡ true → (release : ℕ) × ReleasedAt log (placeOf table j) time release × (time < release + R)
-      finished-within-response = low-finished-within j below R (figure-value .0) (figure-value .1)
+      finished-within-response = equation-finished-within j below R (figure-value .0) (figure-value .1)
 
   -- "in which each q equals p and no task is late"
   module _ (raised : EachRaised table) where
-    each-value : ownAssessment table .passes ≡ true → EachLow
+    each-value : ownAssessment table .passes ≡ true → EachEnough
     unfolding ownAssessment choiceAssessment assessed
     each-value verdict j below =
         let on-time = passes-exactly tasks .0 (yes-passes (eqb (choiceRefusal table (ownChoice table)) 0) (passes tasks) verdict) j below in
@@ -201,12 +193,12 @@ module _ (sheet log : List ℕ) (not-refused : replayAnswer sheet log .refusal �
 
     -- "no job misses in any replay log that Ask 1 accepts, of any length": where the verdict of `assess` is yes, the count of missed jobs of `replay` is 0
     pub no-job-missed : ownAssessment table .passes ≡ true → replayAnswer sheet log .counts .missed ≡ 0
-    no-job-missed verdict = low-none-missed (each-value verdict)
+    no-job-missed verdict = equation-none-missed (each-value verdict)
 
     -- so a run that misses refutes the verdict
     pub miss-refutes : (replayAnswer sheet log .counts .missed ≡ 0 → ⊥) → ownAssessment table .passes ≡ false
-    miss-refutes some = not-holds (ownAssessment table .passes) (λ verdict. some (no-job-missed verdict))
+    miss-refutes some = eq-false-of-not-eq-true {b = ownAssessment table .passes} (λ verdict. some (no-job-missed verdict))
 
     -- and one tick of it that misses, without counting
     pub tick-refutes : (place time : ℕ) → place < 8 → time < ticksOf log → missesAt start log place time ≡ true → ownAssessment table .passes ≡ false
-    tick-refutes place time below within miss = not-holds (ownAssessment table .passes) (λ verdict. true≢false (sym miss ∙ low-nowhere-missed (each-value verdict) place time below within))
+    tick-refutes place time below within miss = eq-false-of-not-eq-true {b = ownAssessment table .passes} (λ verdict. true≢false (sym miss ∙ equation-nowhere-missed (each-value verdict) place time below within))

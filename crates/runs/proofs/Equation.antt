@@ -1,4 +1,4 @@
--- The equation "low" over a sheet's records, and the same by place in its machine, where a task stands at the place of its priority. Assumes nothing.
+-- The assured equation over a sheet's records, and the same by place in its machine, where a task stands at the place of its priority. Assumes nothing.
 use Prim.Native.Nat.{ℕ, _+_, _-_, _*_, _≤_, _<_}
 use mathlib.Core.Path.{_≡_, refl, sym, ap, ap₂, subst, _∙_}
 use mathlib.Core.Bool.{Bool, true, false, cond, or-false}
@@ -9,31 +9,32 @@ use native.Mathlib.Decide.{decLt}
 use native.Mathlib.Omega.{arith}
 use borrow.Author.Tests.{ne-eqb}
 use lib.Dec.{ltb}
+use Rattle.places.specs.Places.{sumBelow}
+use Rattle.places.proofs.Onto.{Numbering, onto}
+use Rattle.places.proofs.Summed.{sum-one}
+use Rattle.places.proofs.Gathered.{sum-reordered, sum-until}
 use Rattle.sheet.specs.declared.Record.{Record}
 use Rattle.sheet.specs.declared.Table.{Table}
 use Rattle.sheet.specs.Layout.{recordAt, tableOf}
 use Rattle.sheet.specs.Rules.{taken, sheetRefusal}
 use Rattle.sheet.proofs.Cases.{Good, GoodTable, good-table, good-at}
 use Rattle.sheet.proofs.Demands.{table-good}
-use Rattle.sheet.proofs.Onto.{Numbering, onto}
 use Rattle.sheet.proofs.Ranks.{ranked}
-use Rattle.analysis.specs.Rounding.{up}
-use Rattle.analysis.specs.Totals.{sumBelow}
-use Rattle.analysis.specs.Tasks.{Tasks}
-use Rattle.analysis.specs.Backups.{others}
-use Rattle.analysis.specs.Answers.{ownTasks}
-use Rattle.analysis.specs.Low.{isOver, backupAhead, low}
-use Rattle.analysis.proofs.Rounding.{up-least}
-use Rattle.analysis.proofs.Gathered.{sum-reordered, sum-until}
-use Rattle.analysis.proofs.Choice.{own-at}
-use Rattle.analysis.proofs.Raised.{ahead-most}
+use Rattle.analysis.specs.Common.Supplier.{supplierOf}
+use Rattle.analysis.specs.Common.Rounding.{up}
+use Rattle.analysis.specs.Common.Tasks.{Tasks}
+use Rattle.analysis.specs.Common.Backups.{others}
+use Rattle.analysis.specs.Common.Entries.{ownTasks}
+use Rattle.analysis.specs.Assured.Equation.{askedAssured, isOver, backupAhead, assuredEquation}
+use Rattle.analysis.proofs.Laws.Common.Rounding.{up-least}
+use Rattle.analysis.proofs.Laws.Common.Choice.{own-at}
+use Rattle.analysis.proofs.Laws.Assured.Raised.{ahead-most}
 use Rattle.replay.specs.declared.Cell.{Cell}
-use Rattle.replay.specs.Runner.{levelOf}
-use Rattle.replay.specs.Step.{released, struck}
-use Rattle.replay.specs.Machines.{machineOf}
-use Rattle.replay.proofs.Placed.{task-none, task-of-sheet}
+use Rattle.replay.specs.Ticks.Runner.{priorityOf}
+use Rattle.replay.specs.Ticks.Step.{released, struck}
+use Rattle.replay.specs.Ticks.Machines.{machineOf}
+use Rattle.replay.proofs.OfTicks.Started.{task-none, task-of-sheet}
 use Rattle.runs.specs.Ticks.{placeOf}
-use Rattle.runs.proofs.Summed.{sum-one}
 use Rattle.runs.proofs.Counting.{counts, Counts, own, higher, beside, counts-why}
 use Rattle.runs.proofs.Window.{most, Enough}
 
@@ -101,8 +102,8 @@ module _ (sheet : List ℕ) (good : sheetRefusal sheet ≡ 0) where
     asks L place = cond (counts placeTasks place-j place (released (placeTasks place))) (up L (placeTasks place .period) * placeTasks place .cost) 0
 
     -- the first attempts of another record count exactly if its priority is above q of j
-    over-counts : (k : ℕ) → k < table .count → (k ≡ j → ⊥) → counts placeTasks place-j (placeOf table k) (released (placeTasks (placeOf table k))) ≡ isOver sheetTasks j k
-    unfolding counts levelOf isOver others
+    over-counts : (k : ℕ) → k < table .count → (k ≡ j → ⊥) → counts placeTasks place-j (placeOf table k) (released (placeTasks (placeOf table k))) ≡ isOver sheetTasks j (sheetTasks .fault j) k
+    unfolding counts priorityOf isOver others
     over-counts k below apart =
         let other : placeOf table k ≡ place-j → ⊥ = λ e. apart (places .apart k j below low-j e) in
         let above : placeOf table k + 1 ≡ records k .priority = omega (arith, record-good k below .priority) in
@@ -110,13 +111,13 @@ module _ (sheet : List ℕ) (good : sheetRefusal sheet ≡ 0) where
         (or-false (ltb (placeTasks place-j .«fault_priority») (placeOf table k + 1)) ∙ ap₂ ltb fault-j above)
 
     -- all that is asked for in L ticks, by place, is at most what the equation has beside the backups
-    most-low : (L : ℕ) → L ≤ records j .deadline → 1 ≤ L
-        → most placeTasks (table .interval) place-j L ≤ sumBelow (λ k. cond (isOver sheetTasks j k) (up L (records k .period) * records k .cost) 0) (table .count) + records j .cost
+    most-assured : (L : ℕ) → L ≤ records j .deadline → 1 ≤ L
+        → most placeTasks (table .interval) place-j L ≤ sumBelow (λ k. cond (isOver sheetTasks j (sheetTasks .fault j) k) (up L (records k .period) * records k .cost) 0) (table .count) + records j .cost
     unfolding most
-    most-low L timely some =
+    most-assured L timely some =
         let until : sumBelow (asks L) 8 ≡ sumBelow (asks L) (table .count) = sum-until (asks L) (asks L) (table .count) 8 (known .count .1) (λ k low. refl) (λ k past low. nothing k past) in
         let reordered = sum-reordered (table .count) (placeOf table) places (asks L) in
-        let one = sum-one (λ k. asks L (placeOf table k)) (λ k. cond (isOver sheetTasks j k) (up L (records k .period) * records k .cost) 0) 0 (records j .cost) j (table .count) low-j other here in
+        let one = sum-one (λ k. asks L (placeOf table k)) (λ k. cond (isOver sheetTasks j (sheetTasks .fault j) k) (up L (records k .period) * records k .cost) 0) 0 (records j .cost) j (table .count) low-j other here in
         omega (arith, until, reordered, one)
       where
         nothing : (place : ℕ) → table .count ≤ place → asks L place ≡ 0
@@ -126,10 +127,10 @@ module _ (sheet : List ℕ) (good : sheetRefusal sheet ≡ 0) where
             go true = rw (task-none sheet good place past) (mul-zero (up L 0))
             go false = refl
 
-        other : (k : ℕ) → k < table .count → (k ≡ j → ⊥) → asks L (placeOf table k) ≡ cond (isOver sheetTasks j k) (up L (records k .period) * records k .cost) 0
+        other : (k : ℕ) → k < table .count → (k ≡ j → ⊥) → asks L (placeOf table k) ≡ cond (isOver sheetTasks j (sheetTasks .fault j) k) (up L (records k .period) * records k .cost) 0
         other k below apart = ap₂ (λ (b : Bool) (r : Record). cond b (up L (r .period) * r .cost) 0) (over-counts k below apart) (placed k below)
 
-        here : asks L place-j + 0 ≤ cond (isOver sheetTasks j j) (up L (records j .period) * records j .cost) 0 + records j .cost
+        here : asks L place-j + 0 ≤ cond (isOver sheetTasks j (sheetTasks .fault j) j) (up L (records j .period) * records j .cost) 0 + records j .cost
         here = go (counts placeTasks place-j place-j (released (placeTasks place-j)))
           where
             once : up L (records j .period) * records j .cost ≤ records j .cost
@@ -137,14 +138,14 @@ module _ (sheet : List ℕ) (good : sheetRefusal sheet ≡ 0) where
                 let single : up L (records j .period) ≤ 1 = up-least L (records j .period) (omega (arith, record-good j low-j .deadline)) 1 (omega (arith, record-good j low-j .deadline)) in
                 omega (arith, mul-le-mul-right (records j .cost) single, one-mul (records j .cost))
 
-            go : (b : Bool) → cond b (up L (placeTasks place-j .period) * placeTasks place-j .cost) 0 + 0 ≤ cond (isOver sheetTasks j j) (up L (records j .period) * records j .cost) 0 + records j .cost
+            go : (b : Bool) → cond b (up L (placeTasks place-j .period) * placeTasks place-j .cost) 0 + 0 ≤ cond (isOver sheetTasks j (sheetTasks .fault j) j) (up L (records j .period) * records j .cost) 0 + records j .cost
             go true = rw (placed j low-j) (omega (arith, once))
             go false = omega arith
 
     -- N covers each backup that counts
-    covers-low : (place : ℕ) → place < 8 → (job : Cell) → counts placeTasks place-j place (struck (placeTasks place) job) ≡ true → placeTasks place .backup ≤ backupAhead sheetTasks j
-    unfolding levelOf
-    covers-low place below job e = go (decLt place (table .count))
+    covers-assured : (place : ℕ) → place < 8 → (job : Cell) → counts placeTasks place-j place (struck (placeTasks place) job) ≡ true → placeTasks place .backup ≤ backupAhead sheetTasks j
+    unfolding priorityOf
+    covers-assured place below job e = go (decLt place (table .count))
       where
         go : Dec (place < table .count) → placeTasks place .backup ≤ backupAhead sheetTasks j
         go (no past) = rw (task-none sheet good place (omega arith)) (omega arith)
@@ -161,14 +162,14 @@ module _ (sheet : List ℕ) (good : sheetRefusal sheet ≡ 0) where
             why found fault (beside one l r) = inr (inr (omega (arith, fault, fault-j), omega (arith, found .2, record-good (found .0) (found .1) .priority)))
 
     -- a length that is at least what the equation asks for, and within the deadline, is enough by place
-    pub enough-low : (L : ℕ) → low sheetTasks j L ≤ L → L ≤ records j .deadline → Enough placeTasks (table .interval) place-j (backupAhead sheetTasks j) L
-    unfolding low
-    enough-low L fits timely =
+    pub enough-assured : (L : ℕ) → assuredEquation sheetTasks j L ≤ L → L ≤ records j .deadline → Enough placeTasks (table .interval) place-j (backupAhead sheetTasks j) L
+    unfolding askedAssured isOver supplierOf assuredEquation
+    enough-assured L fits timely =
         let some : 1 ≤ L = omega (arith, record-good j low-j .cost) in
         record {
           here = omega (arith, record-good j low-j .priority, known .count);
           some = some;
           timely = rw (placed j low-j) timely;
-          fits = omega (arith, fits, most-low L timely some);
-          covers = covers-low;
+          fits = omega (arith, fits, most-assured L timely some);
+          covers = covers-assured;
         }

@@ -1,5 +1,4 @@
 -- Laws that belong to no one function, lowest first.
-pub mod Summed
 pub mod Paced
 pub mod Counting
 pub mod Window

@@ -3,7 +3,7 @@ use Prim.Native.Nat.{ℕ, zero, suc, _+_, _-_, _/_, _≤_}
 use mathlib.Core.Path.{_≡_, sym, ap, _∙_}
 use native.Mathlib.Nat.{le-div-iff-mul-le, div-mul-le-self, div-zero, le-trans, le-of-eq, add-div-right}
 use native.Mathlib.Omega.{arith}
-use Rattle.analysis.specs.Rounding.{up}
+use Rattle.analysis.specs.Common.Rounding.{up}
 
 unfoldable pub times : ℕ → ℕ → ℕ → ℕ
 times x wait span = (x + wait) / span

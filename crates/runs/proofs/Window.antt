@@ -2,26 +2,25 @@
 use Prim.Native.Nat.{ℕ, _+_, _-_, _*_, _≤_, _<_}
 use mathlib.Core.Path.{_≡_, refl, sym, ap, subst, _∙_}
 use mathlib.Core.Bool.{Bool, true, false, cond, not, _&&_, true≢false, and-false}
+use mathlib.Mathlib.Data.Bool.Basic.{eq-false-of-not-eq-true}
 use native.Mathlib.Nat.{mul-le-mul-right}
 use native.Mathlib.Decide.{ℕ-discrete}
 use native.Mathlib.Omega.{arith}
 use borrow.Author.Tests.{eq-eqb, ne-eqb, eqb-true, eqb-false, lt-leb, not-true}
 use lib.Dec.{eqb, leb}
+use Rattle.places.specs.Places.{sumBelow}
+use Rattle.places.proofs.Summed.{sum-rises, sum-part, sum-none, sum-pairs, sum-one, sum-some}
 use Rattle.sheet.specs.declared.Record.{Record}
-use Rattle.analysis.specs.Rounding.{up}
-use Rattle.analysis.specs.Totals.{sumBelow}
-use Rattle.analysis.proofs.Totalled.{sum-rises, sum-part, sum-none}
+use Rattle.analysis.specs.Common.Rounding.{up}
 use Rattle.replay.specs.declared.Cell.{Cell}
-use Rattle.replay.specs.Tick.{isReleased}
-use Rattle.replay.specs.Cells.{isReady}
-use Rattle.replay.specs.Runner.{runner}
-use Rattle.replay.specs.Step.{released, entered, runs, worked, ran, struck, faulted, isLast, isMissed, ended, gapAfter}
-use Rattle.replay.proofs.Found.{not-holds}
-use Rattle.replay.proofs.Struck.{others-kept, runner-changed}
-use Rattle.replay.proofs.Ordered.{runs-first, idle-none, runner-at-most}
-use Rattle.replay.proofs.Ticked.{rest-kept, wait-kept}
-use Rattle.replay.proofs.Kept.{ready-some}
-use Rattle.runs.proofs.Summed.{sum-pairs, sum-one, sum-some}
+use Rattle.replay.specs.Ticks.Tick.{isReleased}
+use Rattle.replay.specs.Ticks.Cells.{isReady}
+use Rattle.replay.specs.Ticks.Runner.{runner}
+use Rattle.replay.specs.Ticks.Step.{released, entered, runs, worked, ran, struck, faulted, isLast, isMissed, ended, gapAfter}
+use Rattle.replay.proofs.OfTicks.Struck.{others-kept, runner-changed}
+use Rattle.replay.proofs.OfTicks.Ordered.{runs-first, idle-none, runner-at-most}
+use Rattle.replay.proofs.OfTicks.Ticked.{rest-kept, wait-kept}
+use Rattle.replay.proofs.OfLogs.Kept.{ready-some}
 use Rattle.runs.proofs.Paced.{times, times-comes, times-ends, times-most}
 use Rattle.runs.proofs.Counting.{counts, counts-worked, counts-ended, counts-own, counts-before, counts-ahead}
 
@@ -48,7 +47,7 @@ module _ (tasks : ℕ → Record) (interval : ℕ) where
   -- What is known of the tasks: no fault priority is above the priority, and faults are an interval apart.
   pub record Lowered : Type 0 where
     pub some : 1 ≤ interval
-    pub levels : (place : ℕ) → tasks place .«fault_priority» ≤ 8
+    pub priorities : (place : ℕ) → tasks place .«fault_priority» ≤ 8
     pub under : (place : ℕ) → place < 8 → tasks place .«fault_priority» ≤ place + 1
 
 -- the task at a place i
@@ -164,7 +163,7 @@ module _ (tasks : ℕ → Record) (interval i : ℕ) where
           subst (λ (c : Cell). cond (counts tasks i place c) (c .left) 0 ≡ 0) (sym (changed place below mine)) (go isStruck)
         where
           go : (b : Bool) → cond (counts tasks i place (cond b (struck (tasks place) (worked (started place))) (worked (started place)))) (cond b (struck (tasks place) (worked (started place))) (worked (started place)) .left) 0 ≡ 0
-          go true = rw (not-holds (counts tasks i place (struck (tasks place) (worked (started place)))) (λ e. true≢false (sym (counts-before tasks i (tasks-known .under) place below (started place) (worked (started place)) e) ∙ count))) refl
+          go true = rw (eq-false-of-not-eq-true {b = counts tasks i place (struck (tasks place) (worked (started place)))} (λ e. true≢false (sym (counts-before tasks i (tasks-known .under) place below (started place) (worked (started place)) e) ∙ count))) refl
           go false = rw (counts-worked tasks i place (started place)) (rw count refl)
 
       runs-at : (place : ℕ) → who ≡ place + 1 → runs who place ≡ true
@@ -181,7 +180,7 @@ module _ (tasks : ℕ → Record) (interval i : ℕ) where
 
       -- the job that runs has work left
       runner-ready : (place : ℕ) → runs who place ≡ true → 1 ≤ started place .left
-      runner-ready place mine = ready-left (started place) (runs-first tasks started (tasks-known .levels) place (runs-there place mine) .ready)
+      runner-ready place mine = ready-left (started place) (runs-first tasks started (tasks-known .priorities) place (runs-there place mine) .ready)
 
       -- where something that counts is left, it is at some place
       work-there : (place : ℕ) → 1 ≤ workAt started place → (counts tasks i place (started place) ≡ true) × (1 ≤ started place .left)
@@ -201,9 +200,9 @@ module _ (tasks : ℕ → Record) (interval i : ℕ) where
           go w =
               let there = work-there (w .0) (w .2) in
               let ready = ready-some (started (w .0)) (there .1) in
-              let busy : who ≡ 0 → ⊥ = λ idle. true≢false (sym ready ∙ idle-none tasks started (tasks-known .levels) idle (w .0) (w .1)) in
+              let busy : who ≡ 0 → ⊥ = λ idle. true≢false (sym ready ∙ idle-none tasks started (tasks-known .priorities) idle (w .0) (w .1)) in
               let here : who ≡ who - 1 + 1 = omega arith in
-              let below : who - 1 < 8 = omega (arith, runner-at-most tasks started (tasks-known .levels)) in
+              let below : who - 1 < 8 = omega (arith, runner-at-most tasks started (tasks-known .priorities)) in
               let mine = runs-at (who - 1) here in
               sum-one (workAt worked-on) (workAt started) 1 (cond isStruck backup 0) (who - 1) 8 below (λ k low apart. kept k low (runs-only (who - 1) k here apart))
               (runner-works (who - 1) below mine (runner-ready (who - 1) mine) (counting (ℕ-discrete (w .0) (who - 1)) here below ready there))
@@ -211,7 +210,7 @@ module _ (tasks : ℕ → Record) (interval i : ℕ) where
               counting : Dec (w .0 ≡ who - 1) → who ≡ who - 1 + 1 → who - 1 < 8 → isReady (started (w .0)) ≡ true → (counts tasks i (w .0) (started (w .0)) ≡ true) × (1 ≤ started (w .0) .left) → counts tasks i (who - 1) (started (who - 1)) ≡ true
               counting (yes e) here below ready there = subst (λ (k : ℕ). counts tasks i k (started k) ≡ true) e (there .0)
               counting (no apart) here below ready there =
-                  counts-ahead tasks i (tasks-known .under) started (who - 1) (w .0) below (w .1) (runs-first tasks started (tasks-known .levels) (who - 1) here .before (w .0) (w .1) ready apart) (there .0)
+                  counts-ahead tasks i (tasks-known .under) started (who - 1) (w .0) below (w .1) (runs-first tasks started (tasks-known .priorities) (who - 1) here .before (w .0) (w .1) ready apart) (there .0)
 
       -- and where nothing is left, nothing comes of its tick
       work-none : work started ≡ 0 → work worked-on ≡ 0
@@ -222,7 +221,7 @@ module _ (tasks : ℕ → Record) (interval i : ℕ) where
           nothing place below = omega (arith, sum-part (workAt started) 8 place below)
 
           outside : (place : ℕ) → place < 8 → 1 ≤ started place .left → counts tasks i place (started place) ≡ false
-          outside place below some = not-holds (counts tasks i place (started place)) (λ e. let all : workAt started place ≡ started place .left = simp e in omega (arith, nothing place below))
+          outside place below some = eq-false-of-not-eq-true {b = counts tasks i place (started place)} (λ e. let all : workAt started place ≡ started place .left = simp e in omega (arith, nothing place below))
 
           go : (place : ℕ) → place < 8 → (b : Bool) → runs who place ≡ b → workAt worked-on place ≡ 0
           go place below true mine = runner-outside place below mine (outside place below (runner-ready place mine))

@@ -8,12 +8,12 @@ use Rattle.sheet.specs.declared.Table.{Table}
 use Rattle.sheet.specs.Layout.{recordAt}
 use Rattle.replay.specs.declared.Cell.{Cell}
 use Rattle.replay.specs.declared.Machine.{Machine}
-use Rattle.replay.specs.Tick.{isReleased}
-use Rattle.replay.specs.Cells.{cellAt}
-use Rattle.replay.specs.Step.{runs, isMissed}
-use Rattle.replay.specs.Machines.{runnerOf, cellsRan}
-use Rattle.replay.specs.Positions.{releasesAt, faultsAt}
-use Rattle.replay.specs.Totals.{machineAt}
+use Rattle.replay.specs.Ticks.Tick.{isReleased}
+use Rattle.replay.specs.Ticks.Cells.{cellAt}
+use Rattle.replay.specs.Ticks.Step.{runs, isMissed}
+use Rattle.replay.specs.Ticks.Machines.{runnerOf, cellsRan}
+use Rattle.replay.specs.Logs.Positions.{releasesAt, faultsAt}
+use Rattle.replay.specs.Logs.Totals.{machineAt}
 
 -- its cell in the tick, after the work and the fault
 unfoldable pub cellIn : Machine → List ℕ → ℕ → ℕ → Cell

@@ -1,7 +1,7 @@
 -- The rules case by case: which refusal each broken rule gives once those before it hold, and what holds where none is broken.
 -- Assumes nothing.
-use Prim.Native.Nat.{ℕ, suc, _≤_, _<_}
-use mathlib.Core.Path.{_≡_, refl, _∙_}
+use Prim.Native.Nat.{ℕ, _≤_, _<_}
+use mathlib.Core.Path.{_≡_, refl, sym, _∙_}
 use mathlib.Core.Bool.{Bool, true, false, cond, not, _||_}
 use mathlib.Core.List.{List}
 use native.Mathlib.Nat.{suc-ne-zero}
@@ -9,18 +9,19 @@ use native.Mathlib.Omega.{arith}
 use borrow.Author.Tests.{eq-eqb, ne-eqb, lt-ltb, le-ltb, ltb-true, ltb-false, eqb-true, eqb-false, not-false}
 use lib.Dec.{eqb, ltb}
 use lib.ListN.{length}
+use Rattle.places.proofs.Tells.{Tells, ltb-tells, eqb-tells, or-tells, neither}
+use Rattle.places.proofs.Refusals.{next-of, first-of, none-of, first-all, passed}
 use Rattle.sheet.specs.declared.Record.{Record}
 use Rattle.sheet.specs.declared.Table.{Table}
-use Rattle.sheet.specs.Layout.{countOf, editionOf, intervalOf, roundOf, shareOf, startOf, sizeOf, tableEdition, tableSize, sheetRecord, recordAt}
-use Rattle.sheet.specs.Rules.{outside, wrongShare, taken, refusalOf, recordRefusal, recordsRefusal, headerRefusal, sheetRefusal, tableRefusal}
+use Rattle.sheet.specs.Layout.{countOf, editionOf, intervalOf, roundOf, shareOf, startOf, saidSize, tableEdition, tableSize, sheetRecord, recordAt}
+use Rattle.sheet.specs.Rules.{outside, wrongShare, taken, refusalOf, recordRefusal, recordsRefusal, sizeRefusal, headerRefusal, sheetRefusal, figuresRefusal, tableRefusal}
+use Rattle.sheet.specs.Broken.{Outside}
 use Rattle.sheet.specs.Answers.{placeRefusal, writeRefusal}
-use Rattle.sheet.proofs.Turns.{next-of, first-of, none-of, first-all}
-use Rattle.sheet.proofs.Editions.{neither}
 
--- a chain of tests that gave 0 failed at its first test, and gave 0 after it
-pub passed : (b : Bool) (n r : ℕ) → cond b (suc n) r ≡ 0 → (b ≡ false) × (r ≡ 0)
-passed true n r e = absurd (suc-ne-zero n e)
-passed false n r e = (refl, e)
+-- `outside` tells "0 or above"
+pub outside-tells : (x limit : ℕ) → Tells (Outside x limit) (outside x limit)
+unfolding outside
+outside-tells x limit = or-tells (eqb-tells x 0) (ltb-tells limit x)
 
 -- what is not outside lies from 1 to the limit
 pub within : (x limit : ℕ) → outside x limit ≡ false → (1 ≤ x) × (x ≤ limit)
@@ -51,13 +52,13 @@ good-record n isTaken r e =
     let eight = passed (ltb (r .period) (r .deadline)) 7 _ (seven .1) in
     let nine = passed (outside (r .priority) n || isTaken) 8 _ (eight .1) in
     let ten = passed (outside (r .«fault_priority») (r .priority)) 9 _ (nine .1) in
-    let level = neither (outside (r .priority) n) isTaken (nine .0) in
+    let priority = neither (outside (r .priority) n) isTaken (nine .0) in
     record {
       cost = within (r .cost) (r .deadline) (six .0);
       backup = within (r .backup) (r .deadline) (seven .0);
       deadline = ltb-false (r .period) (r .deadline) (eight .0);
-      priority = within (r .priority) n (level .0);
-      fresh = level .1;
+      priority = within (r .priority) n (priority .0);
+      fresh = priority .1;
       fault = within (r .«fault_priority») (r .priority) (ten .0);
     }
 
@@ -96,50 +97,77 @@ module _ (n : ℕ) (isTaken : Bool) (r : Record) where
             unfolding refusalOf
             record-good f = simp (a, b, le-ltb (r .period) (r .deadline) h, d, t, f)
 
--- the refusals of a header
+-- the refusals of what a header says of its sheet's length
 module _ (s : List ℕ) where
-  pub header-1 : length s < 3 → 1 ≡ headerRefusal s
-  unfolding headerRefusal
-  header-1 h = simp (lt-ltb (length s) 3 h)
+  pub size-1 : length s < 3 → 1 ≡ sizeRefusal s
+  size-1 h = simp (lt-ltb (length s) 3 h)
 
   module _ (a : 3 ≤ length s) where
-    pub header-2 : outside (countOf s) 8 ≡ true → 2 ≡ headerRefusal s
-    unfolding headerRefusal
-    header-2 b = simp (le-ltb (length s) 3 a, b)
+    pub size-2 : outside (countOf s) 8 ≡ true → 2 ≡ sizeRefusal s
+    size-2 b = simp (le-ltb (length s) 3 a, b)
 
     module _ (b : outside (countOf s) 8 ≡ false) where
-      pub header-3 : 1 < editionOf s → 3 ≡ headerRefusal s
+      pub size-3 : 1 < editionOf s → 3 ≡ sizeRefusal s
+      size-3 d = simp (le-ltb (length s) 3 a, b, lt-ltb 1 (editionOf s) d)
+
+      pub size-good : editionOf s ≤ 1 → 0 ≡ sizeRefusal s
+      size-good d = simp (le-ltb (length s) 3 a, b, le-ltb 1 (editionOf s) d)
+
+-- what a header that says how long its sheet is is known for
+pub record GoodSize (s : List ℕ) : Type 0 where
+  pub long : 3 ≤ length s
+  pub count : outside (countOf s) 8 ≡ false
+  pub edition : editionOf s ≤ 1
+
+pub good-size : (s : List ℕ) → sizeRefusal s ≡ 0 → GoodSize s
+good-size s e =
+    let one = passed (ltb (length s) 3) 0 _ e in
+    let two = passed (outside (countOf s) 8) 1 _ (one .1) in
+    let three = passed (ltb 1 (editionOf s)) 2 _ (two .1) in
+    record { long = ltb-false (length s) 3 (one .0); count = two .0; edition = ltb-false 1 (editionOf s) (three .0) }
+
+-- no number above 3 is given of it
+pub size-low : (s : List ℕ) → sizeRefusal s ≤ 3
+size-low s = go (ltb (length s) 3) (outside (countOf s) 8) (ltb 1 (editionOf s))
+  where
+    go : (a b c : Bool) → cond a 1 (cond b 2 (cond c 3 0)) ≤ 3
+    go true b c = omega arith
+    go false true c = omega arith
+    go false false true = omega arith
+    go false false false = omega arith
+
+-- the refusals of a header: of its length, and then the others
+module _ (s : List ℕ) where
+  pub header-size : (sizeRefusal s ≡ 0 → ⊥) → sizeRefusal s ≡ headerRefusal s
+  unfolding headerRefusal
+  header-size broken = sym (first-of (sizeRefusal s) _ broken)
+
+  module _ (z : sizeRefusal s ≡ 0) where
+    pub header-1-again : length s < startOf s → 1 ≡ headerRefusal s
+    unfolding headerRefusal
+    header-1-again h = sym (next-of _ z ∙ simp (lt-ltb (length s) (startOf s) h))
+
+    module _ (h : startOf s ≤ length s) where
+      pub header-4 : (length s ≡ saidSize s → ⊥) → 4 ≡ headerRefusal s
       unfolding headerRefusal
-      header-3 d = simp (le-ltb (length s) 3 a, b, lt-ltb 1 (editionOf s) d)
+      header-4 e = sym (next-of _ z ∙ simp (le-ltb (length s) (startOf s) h, ne-eqb (length s) (saidSize s) e))
 
-      module _ (d : editionOf s ≤ 1) where
-        pub header-1-again : length s < startOf s → 1 ≡ headerRefusal s
+      module _ (e : length s ≡ saidSize s) where
+        pub header-5 : intervalOf s ≡ 0 → 5 ≡ headerRefusal s
         unfolding headerRefusal
-        header-1-again h = simp (le-ltb (length s) 3 a, b, le-ltb 1 (editionOf s) d, lt-ltb (length s) (startOf s) h)
+        header-5 f = sym (next-of _ z ∙ simp (le-ltb (length s) (startOf s) h, eq-eqb (length s) (saidSize s) e, eq-eqb (intervalOf s) 0 f))
 
-        module _ (h : startOf s ≤ length s) where
-          pub header-4 : (length s ≡ sizeOf (editionOf s) (countOf s) → ⊥) → 4 ≡ headerRefusal s
+        module _ (f : intervalOf s ≡ 0 → ⊥) where
+          -- after 5 the share decides
+          pub header-share : cond (wrongShare (editionOf s) (roundOf s) (shareOf s)) 18 0 ≡ headerRefusal s
           unfolding headerRefusal
-          header-4 e = simp (le-ltb (length s) 3 a, b, le-ltb 1 (editionOf s) d, le-ltb (length s) (startOf s) h, ne-eqb (length s) (sizeOf (editionOf s) (countOf s)) e)
+          header-share = sym (next-of _ z ∙ simp (le-ltb (length s) (startOf s) h, eq-eqb (length s) (saidSize s) e, ne-eqb (intervalOf s) 0 f))
 
-          module _ (e : length s ≡ sizeOf (editionOf s) (countOf s)) where
-            pub header-5 : intervalOf s ≡ 0 → 5 ≡ headerRefusal s
-            unfolding headerRefusal
-            header-5 f =
-                simp (le-ltb (length s) 3 a, b, le-ltb 1 (editionOf s) d, le-ltb (length s) (startOf s) h, eq-eqb (length s) (sizeOf (editionOf s) (countOf s)) e, eq-eqb (intervalOf s) 0 f)
+          pub header-18 : wrongShare (editionOf s) (roundOf s) (shareOf s) ≡ true → 18 ≡ headerRefusal s
+          header-18 g = simp g at header-share
 
-            module _ (f : intervalOf s ≡ 0 → ⊥) where
-              -- after 5 the share decides
-              pub header-share : cond (wrongShare (editionOf s) (roundOf s) (shareOf s)) 18 0 ≡ headerRefusal s
-              unfolding headerRefusal
-              header-share =
-                  simp (le-ltb (length s) 3 a, b, le-ltb 1 (editionOf s) d, le-ltb (length s) (startOf s) h, eq-eqb (length s) (sizeOf (editionOf s) (countOf s)) e, ne-eqb (intervalOf s) 0 f)
-
-              pub header-18 : wrongShare (editionOf s) (roundOf s) (shareOf s) ≡ true → 18 ≡ headerRefusal s
-              header-18 g = simp g at header-share
-
-              pub header-good : wrongShare (editionOf s) (roundOf s) (shareOf s) ≡ false → 0 ≡ headerRefusal s
-              header-good g = simp g at header-share
+          pub header-good : wrongShare (editionOf s) (roundOf s) (shareOf s) ≡ false → 0 ≡ headerRefusal s
+          header-good g = simp g at header-share
 
 -- what a header that is not refused is known for
 pub record GoodHeader (s : List ℕ) : Type 0 where
@@ -147,49 +175,62 @@ pub record GoodHeader (s : List ℕ) : Type 0 where
   pub count : (1 ≤ countOf s) × (countOf s ≤ 8)
   pub edition : editionOf s ≤ 1
   pub header : startOf s ≤ length s
-  pub size : length s ≡ sizeOf (editionOf s) (countOf s)
+  pub size : length s ≡ saidSize s
   pub interval : intervalOf s ≡ 0 → ⊥
   pub share : wrongShare (editionOf s) (roundOf s) (shareOf s) ≡ false
 
 pub good-header : (s : List ℕ) → headerRefusal s ≡ 0 → GoodHeader s
 unfolding headerRefusal
 good-header s e =
-    let one = passed (ltb (length s) 3) 0 _ e in
-    let two = passed (outside (countOf s) 8) 1 _ (one .1) in
-    let three = passed (ltb 1 (editionOf s)) 2 _ (two .1) in
-    let again = passed (ltb (length s) (startOf s)) 0 _ (three .1) in
-    let four = passed (not (eqb (length s) (sizeOf (editionOf s) (countOf s)))) 3 _ (again .1) in
+    let both = none-of (sizeRefusal s) _ e in
+    let said = good-size s (both .0) in
+    let again = passed (ltb (length s) (startOf s)) 0 _ (both .1) in
+    let four = passed (not (eqb (length s) (saidSize s))) 3 _ (again .1) in
     let five = passed (eqb (intervalOf s) 0) 4 _ (four .1) in
     let last = passed (wrongShare (editionOf s) (roundOf s) (shareOf s)) 17 _ (five .1) in
     record {
-      long = ltb-false (length s) 3 (one .0);
-      count = within (countOf s) 8 (two .0);
-      edition = ltb-false 1 (editionOf s) (three .0);
+      long = said .long;
+      count = within (countOf s) 8 (said .count);
+      edition = said .edition;
       header = ltb-false (length s) (startOf s) (again .0);
-      size = eqb-true (length s) (sizeOf (editionOf s) (countOf s)) (not-false (eqb (length s) (sizeOf (editionOf s) (countOf s))) (four .0));
+      size = eqb-true (length s) (saidSize s) (not-false (eqb (length s) (saidSize s)) (four .0));
       interval = eqb-false (intervalOf s) 0 (five .0);
       share = last .0;
     }
 
--- the refusals of a table by value
+-- the refusals of a table's figures, and the table's once they are good
 module _ (t : Table) where
-  pub table-2 : outside (t .count) 8 ≡ true → 2 ≡ tableRefusal t
-  unfolding tableRefusal
-  table-2 a = simp a
+  pub figures-2 : outside (t .count) 8 ≡ true → 2 ≡ figuresRefusal t
+  figures-2 a = simp a
 
   module _ (a : outside (t .count) 8 ≡ false) where
-    pub table-5 : t .interval ≡ 0 → 5 ≡ tableRefusal t
-    unfolding tableRefusal
-    table-5 b = simp (a, eq-eqb (t .interval) 0 b)
+    pub figures-5 : t .interval ≡ 0 → 5 ≡ figuresRefusal t
+    figures-5 b = simp (a, eq-eqb (t .interval) 0 b)
 
     module _ (b : t .interval ≡ 0 → ⊥) where
-      pub table-18 : wrongShare (tableEdition t) (t .round) (t .share) ≡ true → 18 ≡ tableRefusal t
-      unfolding tableRefusal
-      table-18 d = simp (a, ne-eqb (t .interval) 0 b, d)
+      pub figures-18 : wrongShare (tableEdition t) (t .round) (t .share) ≡ true → 18 ≡ figuresRefusal t
+      figures-18 d = simp (a, ne-eqb (t .interval) 0 b, d)
 
-      pub table-records : wrongShare (tableEdition t) (t .round) (t .share) ≡ false → recordsRefusal (t .count) (recordAt (t .records)) ≡ tableRefusal t
-      unfolding tableRefusal
-      table-records d = simp (a, ne-eqb (t .interval) 0 b, d)
+      module _ (d : wrongShare (tableEdition t) (t .round) (t .share) ≡ false) where
+        pub figures-good : 0 ≡ figuresRefusal t
+        figures-good = simp (a, ne-eqb (t .interval) 0 b, d)
+
+        pub table-records : recordsRefusal (t .count) (recordAt (t .records)) ≡ tableRefusal t
+        unfolding tableRefusal
+        table-records = sym (next-of _ (sym figures-good))
+
+-- what a table whose figures are not refused is known for
+pub record GoodFigures (t : Table) : Type 0 where
+  pub count : (1 ≤ t .count) × (t .count ≤ 8)
+  pub interval : t .interval ≡ 0 → ⊥
+  pub share : wrongShare (tableEdition t) (t .round) (t .share) ≡ false
+
+pub good-figures : (t : Table) → figuresRefusal t ≡ 0 → GoodFigures t
+good-figures t e =
+    let two = passed (outside (t .count) 8) 1 _ e in
+    let five = passed (eqb (t .interval) 0) 4 _ (two .1) in
+    let last = passed (wrongShare (tableEdition t) (t .round) (t .share)) 17 _ (five .1) in
+    record { count = within (t .count) 8 (two .0); interval = eqb-false (t .interval) 0 (five .0); share = last .0 }
 
 -- what a table that is not refused is known for
 pub record GoodTable (t : Table) : Type 0 where
@@ -201,15 +242,9 @@ pub record GoodTable (t : Table) : Type 0 where
 pub good-table : (t : Table) → tableRefusal t ≡ 0 → GoodTable t
 unfolding tableRefusal
 good-table t e =
-    let two = passed (outside (t .count) 8) 1 _ e in
-    let five = passed (eqb (t .interval) 0) 4 _ (two .1) in
-    let last = passed (wrongShare (tableEdition t) (t .round) (t .share)) 17 _ (five .1) in
-    record {
-      count = within (t .count) 8 (two .0);
-      interval = eqb-false (t .interval) 0 (five .0);
-      share = last .0;
-      records = last .1;
-    }
+    let both = none-of (figuresRefusal t) _ e in
+    let figures = good-figures t (both .0) in
+    record { count = figures .count; interval = figures .interval; share = figures .share; records = both .1 }
 
 -- what a sheet that is not refused is known for
 pub good-sheet : (s : List ℕ) → sheetRefusal s ≡ 0 → GoodHeader s × (recordsRefusal (countOf s) (sheetRecord s) ≡ 0)

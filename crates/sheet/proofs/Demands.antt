@@ -1,21 +1,28 @@
--- The demands on sheets in the request's words: written back as the same bytes, read back as the same table, one encoding each; what the old edition means.
+-- The demands on sheets in the request's words: written back as the same bytes, read back as the same table, one encoding each; what the old edition means; and which record a table is refused for.
 -- That the rules are tried in the document's order is `sheet-in-order` and `table-in-order` of Order.antt. Assumes nothing.
-use Prim.Native.Nat.{ℕ, _≤_}
+use Prim.Native.Nat.{ℕ, _≤_, _<_}
 use mathlib.Core.Path.{_≡_, refl, sym, ap, ap₂, _∙_, subst}
-use mathlib.Core.Logic.{_↔_}
+use mathlib.Core.Bool.{Bool, true, false, cond, _||_}
+use mathlib.Core.Logic.{_⊎_, _↔_, inl, inr, ⊎-elim}
 use mathlib.Core.List.{List, _++_}
+use native.Mathlib.Decide.{ℕ-discrete}
 use native.Mathlib.Omega.{arith}
+use borrow.Author.Tests.{ne-eqb}
+use lib.Dec.{eqb, ltb}
 use lib.ListN.{length, take, drop}
 use lib.Seq.{take-at}
+use Rattle.places.specs.Refusals.{firstBelow}
+use Rattle.places.proofs.Refusals.{next-of, first-of, none-of}
+use Rattle.sheet.specs.declared.Record.{Record}
 use Rattle.sheet.specs.declared.Table.{Table}
-use Rattle.sheet.specs.Layout.{countOf, editionOf, roundOf, shareOf, startOf, sizeOf, sheetRecord, tableOf, cleared, isWhole, editionFor, tableEdition, tableSize, sheetOf}
-use Rattle.sheet.specs.Rules.{outside, wrongShare, sheetRefusal, tableRefusal, recordsRefusal}
+use Rattle.sheet.specs.Layout.{countOf, editionOf, roundOf, shareOf, startOf, sizeOf, sheetRecord, recordAt, tableOf, cleared, isWhole, editionFor, tableEdition, tableSize, sheetOf}
+use Rattle.sheet.specs.Rules.{outside, wrongShare, taken, refusalOf, recordRefusal, recordsRefusal, sheetRefusal, figuresRefusal, tableRefusal, brokenBelow, brokenPlace}
 use Rattle.sheet.specs.Answers.{readAnswer, writeRefusal, writeAnswer, writeLeaves}
 use Rattle.sheet.proofs.Spelled.{Bytes}
-use Rattle.sheet.proofs.Turns.{next-of, none-of}
 use Rattle.sheet.proofs.Editions.{Edition, old, new, edition-of, edition-low, whole-old, right-share}
 use Rattle.sheet.proofs.Stores.{length-sheet}
-use Rattle.sheet.proofs.Cases.{good-sheet, good-table, header-good, table-records, write-fits, outside-within}
+use Rattle.sheet.proofs.Cases.{good-sheet, good-table, size-good, header-good, table-records, write-fits, outside-within}
+use Rattle.sheet.proofs.Judging.{broken-none, broken-at}
 use Rattle.sheet.proofs.Agree.{records-agree, room-at}
 use Rattle.sheet.proofs.Return.{Wide, old-fields, edition-kept, size-kept, sheet-kept, table-kept, count-read, edition-read, interval-read, round-read, share-read, records-read}
 
@@ -53,7 +60,7 @@ sheet-good t wide good =
     let low = edition-low (t .round) (t .share) in
     next-of _
     (sym
-    (header-good (sheetOf t) (omega arith) (ap (λ (n : ℕ). outside n 8) count ∙ outside-within (t .count) 8 (known .count)) (omega arith) (omega arith) (omega arith)
+    (header-good (sheetOf t) (sym (size-good (sheetOf t) (omega arith) (ap (λ (n : ℕ). outside n 8) count ∙ outside-within (t .count) 8 (known .count)) (omega arith))) (omega arith) (omega arith)
     (λ e. known .interval (sym (interval-read t wide known) ∙ e)) (simp (edition, round-read t wide known, share-read t wide known) (known .share))))
     ∙ ap (λ (n : ℕ). recordsRefusal n (sheetRecord (sheetOf t))) count ∙ records-agree (t .count) (records-read t wide known) ∙ known .records
 
@@ -86,3 +93,63 @@ only-whole t good above = go (tableEdition t) (edition-of (tableEdition t) (edit
     go : (e : ℕ) → Edition e → tableEdition t ≡ e → (t .round ≡ 1) × (t .share ≡ 1)
     go e old is = whole-old (t .round) (t .share) is
     go e new is = absurd (omega (arith, right-share (t .round) (t .share) is (good-table t good .share)))
+
+-- the record that a table is refused for: beside a refusal of 6 to 10 the place is one below the count, the record there breaks the rule of the refusal, and none before it breaks any
+pub broken-record : (t : Table) → (6 ≤ tableRefusal t) × (tableRefusal t ≤ 10)
+    → (brokenPlace t < t .count) × (recordRefusal (t .count) (recordAt (t .records)) (brokenPlace t) ≡ tableRefusal t) × ((k : ℕ) → k < brokenPlace t → recordRefusal (t .count) (recordAt (t .records)) k ≡ 0)
+unfolding tableRefusal brokenPlace recordsRefusal
+broken-record t given = go (ℕ-discrete (figuresRefusal t) 0)
+  where
+    figures-other : (a b c : Bool) → 6 ≤ cond a 2 (cond b 5 (cond c 18 0)) → cond a 2 (cond b 5 (cond c 18 0)) ≤ 10 → ⊥
+    figures-other true b c low high = omega arith
+    figures-other false true c low high = omega arith
+    figures-other false false true low high = omega arith
+    figures-other false false false low high = omega arith
+
+    at : ℕ → Record
+    at = recordAt (t .records)
+
+    go : Dec (figuresRefusal t ≡ 0) → (brokenPlace t < t .count) × (recordRefusal (t .count) at (brokenPlace t) ≡ tableRefusal t) × ((k : ℕ) → k < brokenPlace t → recordRefusal (t .count) at k ≡ 0)
+    go (no broken) =
+        let same : tableRefusal t ≡ figuresRefusal t = first-of (figuresRefusal t) _ broken in
+        absurd (figures-other (outside (t .count) 8) (eqb (t .interval) 0) (wrongShare (tableEdition t) (t .round) (t .share)) (omega (arith, given .0, same)) (omega (arith, given .1, same)))
+    go (yes good) =
+        let records : tableRefusal t ≡ firstBelow (recordRefusal (t .count) at) (t .count) = next-of _ good in
+        let place : brokenPlace t ≡ brokenBelow (recordRefusal (t .count) at) (t .count) = simp good in
+        let found = broken-at (recordRefusal (t .count) at) (t .count) (λ e. omega (arith, given .0, records, e)) in
+        (omega (arith, place, found .0), ap (recordRefusal (t .count) at) place ∙ found .1 ∙ sym records, λ k below. found .2 k (omega (arith, place)))
+
+-- a record's refusal is 0 or from 6 to 10
+record-range : (n : ℕ) (isTaken : Bool) (r : Record) → (refusalOf n isTaken r ≡ 0) ⊎ ((6 ≤ refusalOf n isTaken r) × (refusalOf n isTaken r ≤ 10))
+unfolding refusalOf
+record-range n isTaken r = go (outside (r .cost) (r .deadline)) (outside (r .backup) (r .deadline)) (ltb (r .period) (r .deadline)) (outside (r .priority) n || isTaken) (outside (r .«fault_priority») (r .priority))
+  where
+    go : (a b c d e : Bool) → let number : ℕ = cond a 6 (cond b 7 (cond c 8 (cond d 9 (cond e 10 0)))) in (number ≡ 0) ⊎ ((6 ≤ number) × (number ≤ 10))
+    go true b c d e = inr (omega arith, omega arith)
+    go false true c d e = inr (omega arith, omega arith)
+    go false false true d e = inr (omega arith, omega arith)
+    go false false false true e = inr (omega arith, omega arith)
+    go false false false false true = inr (omega arith, omega arith)
+    go false false false false false = inl refl
+
+-- beside any other refusal, and beside none, it is 0
+pub no-broken-record : (t : Table) → (tableRefusal t < 6) ⊎ (10 < tableRefusal t) → brokenPlace t ≡ 0
+unfolding tableRefusal brokenPlace recordsRefusal recordRefusal
+no-broken-record t other = go (ℕ-discrete (figuresRefusal t) 0)
+  where
+    refusal : ℕ → ℕ
+    refusal = recordRefusal (t .count) (recordAt (t .records))
+
+    none : tableRefusal t ≡ firstBelow refusal (t .count) → Dec (firstBelow refusal (t .count) ≡ 0) → brokenBelow refusal (t .count) ≡ 0
+    none records (yes z) = broken-none refusal (t .count) z
+    none records (no some) =
+        let found = broken-at refusal (t .count) some in
+        let there : refusal (brokenBelow refusal (t .count)) ≡ tableRefusal t = found .1 ∙ sym records in
+        ⊎-elim (λ z. absurd (some (sym (found .1) ∙ z))) (λ h. absurd (⊎-elim (λ low. omega (arith, there, h .0, low)) (λ high. omega (arith, there, h .1, high)) other))
+        (record-range (t .count) (taken (recordAt (t .records)) (brokenBelow refusal (t .count)) (recordAt (t .records) (brokenBelow refusal (t .count)) .priority)) (recordAt (t .records) (brokenBelow refusal (t .count))))
+
+    go : Dec (figuresRefusal t ≡ 0) → brokenPlace t ≡ 0
+    go (no broken) = simp (ne-eqb (figuresRefusal t) 0 broken)
+    go (yes good) =
+        let place : brokenPlace t ≡ brokenBelow refusal (t .count) = simp good in
+        place ∙ none (next-of _ good) (ℕ-discrete (firstBelow refusal (t .count)) 0)

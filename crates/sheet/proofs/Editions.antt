@@ -1,12 +1,13 @@
 -- The two editions, one case for each: where something must compute, a law is split into these and nowhere else. And the edition that a table is written in.
 -- Assumes nothing.
 use Prim.Native.Nat.{ℕ, zero, suc, _≤_, _<_}
-use mathlib.Core.Path.{_≡_, refl, sym}
-use mathlib.Core.Bool.{Bool, true, false, cond, _&&_, _||_, true≢false}
+use mathlib.Core.Path.{_≡_, refl}
+use mathlib.Core.Bool.{Bool, true, false, cond}
 use native.Mathlib.Nat.{suc-ne-zero}
 use native.Mathlib.Omega.{arith}
 use borrow.Author.Tests.{eqb-true, eqb-false, leb-false, ne-eqb}
 use lib.Dec.{eqb, leb}
+use Rattle.places.proofs.Tells.{neither, both-true}
 use Rattle.sheet.specs.Layout.{isWhole, editionFor}
 use Rattle.sheet.specs.Rules.{wrongShare}
 
@@ -20,16 +21,6 @@ pub edition-of : (e : ℕ) → e ≤ 1 → Edition e
 edition-of zero h = old
 edition-of (suc zero) h = new
 edition-of (suc (suc e)) h = absurd (omega arith)
-
--- where neither of two tests holds, each fails
-pub neither : (a b : Bool) → (a || b) ≡ false → (a ≡ false) × (b ≡ false)
-neither true b e = absurd (true≢false e)
-neither false b e = (refl, e)
-
--- where both hold, each does
-both : (a b : Bool) → (a && b) ≡ true → (a ≡ true) × (b ≡ true)
-both true b e = (refl, e)
-both false b e = absurd (true≢false (sym e))
 
 module _ (round share : ℕ) where
   -- a table is written in one of the two
@@ -45,7 +36,7 @@ module _ (round share : ℕ) where
   pub whole-old : editionFor round share ≡ 0 → (round ≡ 1) × (share ≡ 1)
   unfolding editionFor isWhole
   whole-old e =
-      let tests = both (eqb round 1) (eqb share 1) (go (isWhole round share) e) in
+      let tests = both-true (eqb round 1) (eqb share 1) (go (isWhole round share) e) in
       (eqb-true round 1 (tests .0), eqb-true share 1 (tests .1))
     where
       go : (b : Bool) → _≡_ {A = ℕ} (cond b 0 1) 0 → b ≡ true

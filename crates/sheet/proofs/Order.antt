@@ -1,102 +1,25 @@
 -- A sheet's refusal and that of a table by value are given in the order in which the rows of specs/Broken.antt are tried. Assumes nothing.
 use Prim.Native.Nat.{ℕ, zero, suc, _+_, _*_, _≤_, _<_}
-use mathlib.Core.Path.{_≡_, refl, sym, subst, _∙_}
+use mathlib.Core.Path.{_≡_, refl, sym, subst}
 use mathlib.Core.Bool.{Bool, true, false, cond, not}
 use mathlib.Core.Logic.{_⊎_, _↔_, inl, inr, ⊎-elim}
-use mathlib.Core.List.{List, [], _∷_, _++_}
+use mathlib.Core.List.{List, [], _∷_}
+use native.Mathlib.Nat.{suc-ne-zero}
 use native.Mathlib.Omega.{arith}
-use lib.Dec.{eqb}
+use lib.Dec.{eqb, ltb}
 use lib.ListN.{length}
+use Rattle.places.specs.Refusals.{orElse, row, InOrder}
+use Rattle.places.proofs.Tells.{Tells, holds, fails, tells-iff, ltb-tells, leb-tells, eqb-tells, not-tells, or-tells, and-tells}
+use Rattle.places.proofs.Some.{some-tells}
+use Rattle.places.proofs.Refusals.{next-of, first-of}
+use Rattle.places.proofs.Order.{Says, none, first, says-none, says-row, says-wider, says-joined, says-below, in-order}
 use Rattle.sheet.specs.declared.Record.{Record}
 use Rattle.sheet.specs.declared.Table.{Table}
-use Rattle.sheet.specs.Places.{orElse, firstBelow, joinedBelow}
-use Rattle.sheet.specs.Layout.{countOf, editionOf, intervalOf, roundOf, shareOf, startOf, sizeOf, isWhole, editionFor, tableEdition, sheetRecord, recordAt}
-use Rattle.sheet.specs.Rules.{outside, wrongShare, taken, refusalOf, recordRefusal, recordsRefusal, headerRefusal, sheetRefusal, tableRefusal}
-use Rattle.sheet.specs.Broken.{Row, row, WrongShare, NoneBroken, FirstBroken, RuleNumber, InOrder, recordRows, recordsRows, headerRows, sheetRows, figuresRows, tableRows}
-use Rattle.sheet.proofs.Turns.{first-of}
+use Rattle.sheet.specs.Layout.{countOf, editionOf, intervalOf, roundOf, shareOf, startOf, sizeOf, isWhole, editionFor, tableEdition, sheetRecord, recordAt, tableOf}
+use Rattle.sheet.specs.Rules.{outside, wrongShare, taken, refusalOf, recordRefusal, recordsRefusal, headerRefusal, sheetRefusal, figuresRefusal, tableRefusal, sharedRefusal, wholeSheetRefusal}
+use Rattle.sheet.specs.Broken.{WrongShare, RuleNumber, recordRows, recordsRows, headerRows, sheetRows, figuresRows, tableRows, wholeRows, WholeNumber}
 use Rattle.sheet.proofs.Editions.{Edition, old, new, edition-of, whole-old}
-use Rattle.sheet.proofs.Tells.{Tells, holds, fails, tells-iff, ltb-tells, leb-tells, eqb-tells, not-tells, or-tells, and-tells, outside-tells, some-tells}
-
--- no row is the first one broken where none is, and one at most is
-none-first : (rows : List Row) (r : ℕ) → NoneBroken rows → FirstBroken rows r → ⊥
-none-first [] r n f = f
-none-first (row number reason ∷ rows) r n (inl f) = n .0 (f .1)
-none-first (row number reason ∷ rows) r n (inr f) = none-first rows r (n .1) (f .1)
-
-first-unique : (rows : List Row) {q r : ℕ} → FirstBroken rows q → FirstBroken rows r → q ≡ r
-first-unique [] f g = absurd f
-first-unique (row number reason ∷ rows) (inl f) (inl g) = f .0 ∙ sym (g .0)
-first-unique (row number reason ∷ rows) (inl f) (inr g) = absurd (g .0 (f .1))
-first-unique (row number reason ∷ rows) (inr f) (inl g) = absurd (f .0 (g .1))
-first-unique (row number reason ∷ rows) (inr f) (inr g) = first-unique rows (f .1) (g .1)
-
--- rows after others: none is broken, or the first one is among the others, or among the rows and none of the others is
-none-joined : (xs ys : List Row) → NoneBroken xs → NoneBroken ys → NoneBroken (xs ++ ys)
-none-joined [] ys n m = m
-none-joined (row number reason ∷ xs) ys n m = (n .0, none-joined xs ys (n .1) m)
-
-first-before : (xs ys : List Row) (r : ℕ) → FirstBroken xs r → FirstBroken (xs ++ ys) r
-first-before [] ys r f = absurd f
-first-before (row number reason ∷ xs) ys r (inl f) = inl f
-first-before (row number reason ∷ xs) ys r (inr f) = inr (f .0, first-before xs ys r (f .1))
-
-first-after : (xs ys : List Row) (r : ℕ) → NoneBroken xs → FirstBroken ys r → FirstBroken (xs ++ ys) r
-first-after [] ys r n f = f
-first-after (row number reason ∷ xs) ys r n f = inr (n .0, first-after xs ys r (n .1) f)
-
-module _ (Number : ℕ → Type 0) where
-  -- what a number says of rows: it is 0 and none is broken, or it is that of the first one broken, one of the given numbers
-  pub data Says (rows : List Row) : ℕ → Type 0 where
-    none : NoneBroken rows → Says rows 0
-    first : {r : ℕ} → Number r → FirstBroken rows r → Says rows r
-
-module _ {Number : ℕ → Type 0} where
-  -- 0 says it of no rows
-  pub says-none : Says Number [] 0
-  says-none = none tt
-
-  -- a test in front of the number adds a row in front of the rows, and where the test fails its rule is known not to be broken
-  pub says-row : {rows : List Row} {P : Type 0} {b : Bool} {number r : ℕ} → Number number → Tells P b → ((P → ⊥) → Says Number rows r) → Says Number (row number P ∷ rows) (cond b number r)
-  says-row {rows} {P} {number} {r} known (holds p) s = first known (inl (refl, p))
-  says-row {rows} {P} {number} {r} known (fails n) s = go (s n)
-    where
-      go : {r : ℕ} → Says Number rows r → Says Number (row number P ∷ rows) r
-      go (none f) = none (n, f)
-      go (first k f) = first k (inr (n, f))
-
--- what a number says of rows it says with more numbers allowed
-pub says-wider : {Some More : ℕ → Type 0} {rows : List Row} {r : ℕ} → ((n : ℕ) → Some n → More n) → Says Some rows r → Says More rows r
-says-wider wider (none f) = none f
-says-wider wider (first {r = r} k f) = first (wider r k) f
-
-module _ {Number : ℕ → Type 0} (positive : (r : ℕ) → Number r → 0 < r) where
-  -- a number that says it of rows, or else the one that says it of further rows, says it of both
-  pub says-joined : (xs ys : List Row) {q r : ℕ} → Says Number xs q → Says Number ys r → Says Number (xs ++ ys) (orElse q r)
-  unfolding orElse
-  says-joined xs ys (none f) (none g) = none (none-joined xs ys f g)
-  says-joined xs ys (none f) (first {r = r} k g) = first k (first-after xs ys r f g)
-  says-joined xs ys {q} {r} (first k f) s = rw (first-of q r (λ e. omega (arith, positive q k))) (first k (first-before xs ys q f))
-
-  -- the first refusal below n says it of the rows of the places below n
-  pub says-below : (rows : ℕ → List Row) (refusal : ℕ → ℕ) → ((k : ℕ) → Says Number (rows k) (refusal k)) → (n : ℕ) → Says Number (joinedBelow rows n) (firstBelow refusal n)
-  unfolding firstBelow joinedBelow
-  says-below rows refusal each zero = none tt
-  says-below rows refusal each (suc n) = says-joined (joinedBelow rows n) (rows n) (says-below rows refusal each n) (each n)
-
-  -- a number that says it of rows is given in their order
-  pub in-order : {rows : List Row} {r : ℕ} → Says Number rows r → InOrder Number rows r
-  in-order {rows} (none f) =
-      record {
-        first-order = λ x some. (λ e. absurd (omega arith), λ g. absurd (none-first rows x f g));
-        good-order = (λ e. f, λ n. refl);
-        range = inl refl;
-      }
-  in-order {rows} (first {r = r} k f) =
-      record {
-        first-order = λ x some. (λ e. subst (FirstBroken rows) e f, first-unique rows f);
-        good-order = (λ e. absurd (omega (arith, positive r k)), λ n. absurd (none-first rows r n f));
-        range = inr k;
-      }
+use Rattle.sheet.proofs.Cases.{outside-tells}
 
 -- the rules' numbers are not 0
 pub rule-positive : (r : ℕ) → RuleNumber r → 0 < r
@@ -122,17 +45,25 @@ length-tells length edition count low = go edition (edition-of edition low) refl
     go e new is =
         rw is (tells-iff (λ n. inr (refl, n)) (⊎-elim (λ w. absurd (omega arith)) (λ w. w .1)) (not-tells (eqb-tells length (7 + 9 * count))))
 
+-- three tests before a refusal are a refusal and the next
+else-tests : (a b c : Bool) (x y z r : ℕ) → orElse (cond a (suc x) (cond b (suc y) (cond c (suc z) 0))) r ≡ cond a (suc x) (cond b (suc y) (cond c (suc z) r))
+else-tests true b c x y z r = first-of (suc x) r (suc-ne-zero x)
+else-tests false true c x y z r = first-of (suc y) r (suc-ne-zero y)
+else-tests false false true x y z r = first-of (suc z) r (suc-ne-zero z)
+else-tests false false false x y z r = next-of r refl
+
 -- the header's refusal says it of the sheet's rows before its records
 header-says : (sheet : List ℕ) → Says RuleNumber (headerRows sheet) (headerRefusal sheet)
 unfolding headerRows headerRefusal startOf
 header-says sheet =
-    says-row (low (omega arith)) (ltb-tells (length sheet) 3) (λ long.
+    subst (Says RuleNumber (headerRows sheet)) (sym (else-tests (ltb (length sheet) 3) (outside (countOf sheet) 8) (ltb 1 (editionOf sheet)) 0 1 2 _))
+    (says-row (low (omega arith)) (ltb-tells (length sheet) 3) (λ long.
     says-row (low (omega arith)) (outside-tells (countOf sheet) 8) (λ counted.
     says-row (low (omega arith)) (ltb-tells 1 (editionOf sheet)) (λ edition.
     says-row (low (omega arith)) (tells-iff (λ h. omega arith) (λ h. omega arith) (ltb-tells (length sheet) (3 + 4 * editionOf sheet))) (λ header.
     says-row (low (omega arith)) (length-tells (length sheet) (editionOf sheet) (countOf sheet) (omega arith)) (λ sized.
     says-row (low (omega arith)) (eqb-tells (intervalOf sheet) 0) (λ some.
-    says-row (inr refl) (tells-iff (λ w. (omega arith, w .1)) (λ w. (omega arith, w .1)) (share-tells (editionOf sheet) (roundOf sheet) (shareOf sheet))) (λ right. says-none)))))))
+    says-row (inr refl) (tells-iff (λ w. (omega arith, w .1)) (λ w. (omega arith, w .1)) (share-tells (editionOf sheet) (roundOf sheet) (shareOf sheet))) (λ right. says-none))))))))
 
 -- a record's refusal says it of the record's rows
 record-says : (n : ℕ) (at : ℕ → Record) (k : ℕ) → Says RuleNumber (recordRows n at k) (recordRefusal n at k)
@@ -158,13 +89,35 @@ sheet-says sheet = says-joined rule-positive (headerRows sheet) _ (header-says s
 pub sheet-in-order : (sheet : List ℕ) → InOrder RuleNumber (sheetRows sheet) (sheetRefusal sheet)
 sheet-in-order sheet = in-order rule-positive (sheet-says sheet)
 
+-- a round and a share are the whole processor's exactly if both are 1
+pub whole-tells : (round share : ℕ) → Tells ((round ≡ 1) × (share ≡ 1)) (isWhole round share)
+unfolding isWhole
+whole-tells round share = and-tells (eqb-tells round 1) (eqb-tells share 1)
+
+-- what the refusal of a sheet where a whole processor is asked for says of its rows
+pub whole-positive : (r : ℕ) → WholeNumber r → 0 < r
+whole-positive r (inl k) = rule-positive r k
+whole-positive r (inr e) = omega arith
+
+pub whole-says : (sheet : List ℕ) → Says WholeNumber (wholeRows sheet) (wholeSheetRefusal sheet)
+unfolding wholeSheetRefusal sharedRefusal
+whole-says sheet = says-joined whole-positive (sheetRows sheet) _ (says-wider (λ r k. inl k) (sheet-says sheet)) (go (whole-tells (tableOf sheet .round) (tableOf sheet .share)))
+  where
+    go : {b : Bool} → Tells ((tableOf sheet .round ≡ 1) × (tableOf sheet .share ≡ 1)) b → Says WholeNumber (row 19 ((tableOf sheet .round ≡ 1) × (tableOf sheet .share ≡ 1) → ⊥) ∷ []) (cond b 0 19)
+    go (holds whole) = none (λ shared. shared whole, tt)
+    go (fails shared) = first (inr refl) (inl (refl, shared))
+
+-- it is given in the order of these rows
+pub whole-in-order : (sheet : List ℕ) → InOrder WholeNumber (wholeRows sheet) (wholeSheetRefusal sheet)
+whole-in-order sheet = in-order whole-positive (whole-says sheet)
+
 -- a table is in the old edition exactly with Q = S = 1
 edition-tells : (round share : ℕ) → (editionFor round share ≡ 0 → ⊥) ↔ ((round ≡ 1) × (share ≡ 1) → ⊥)
 unfolding editionFor isWhole
 edition-tells round share = (λ n w. n (rw (w .0, w .1) refl), λ n e. n (whole-old round share e))
 
 -- the refusal of a table by value, as far as rule 18, says it of the table's rows before its records
-figures-say : (t : Table) → Says RuleNumber (figuresRows t) (cond (outside (t .count) 8) 2 (cond (eqb (t .interval) 0) 5 (cond (wrongShare (tableEdition t) (t .round) (t .share)) 18 0)))
+figures-say : (t : Table) → Says RuleNumber (figuresRows t) (figuresRefusal t)
 unfolding figuresRows
 figures-say t =
     let shared = edition-tells (t .round) (t .share) in
@@ -172,16 +125,7 @@ figures-say t =
     says-row (low (omega arith)) (eqb-tells (t .interval) 0) (λ some.
     says-row (inr refl) (tells-iff (λ w. (shared .0 (w .0), w .1)) (λ w. (shared .1 (w .0), w .1)) (share-tells (tableEdition t) (t .round) (t .share))) (λ right. says-none)))
 
--- three tests before a refusal are a refusal and the next
-else-tests : (a b c : Bool) (r : ℕ) → orElse (cond a 2 (cond b 5 (cond c 18 0))) r ≡ cond a 2 (cond b 5 (cond c 18 r))
-unfolding orElse
-else-tests true b c r = refl
-else-tests false true c r = refl
-else-tests false false true r = refl
-else-tests false false false r = refl
-
 -- the refusal of a table by value is given in the order of its rows
 pub table-in-order : (t : Table) → InOrder RuleNumber (tableRows t) (tableRefusal t)
 unfolding tableRefusal
-table-in-order t =
-    in-order rule-positive (rw else-tests at (says-joined rule-positive (figuresRows t) _ (figures-say t) (records-say (t .count) (recordAt (t .records)))))
+table-in-order t = in-order rule-positive (says-joined rule-positive (figuresRows t) _ (figures-say t) (records-say (t .count) (recordAt (t .records))))

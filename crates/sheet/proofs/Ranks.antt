@@ -1,27 +1,16 @@
 -- The records of a good table by priority: each has a rank of its own, counted from the highest, and no priority is left out. Assumes nothing.
-use Prim.Native.Nat.{ℕ, zero, suc, _-_, _≤_, _<_}
-use mathlib.Core.Path.{_≡_, sym, ap, _∙_}
-use mathlib.Core.Bool.{Bool, true, false, false≢true}
-use mathlib.Core.Logic.{_⊎_, ⊎-elim}
-use native.Mathlib.Nat.{not-suc-le-zero, eq-or-lt-of-le, le-of-suc-le-suc}
+use Prim.Native.Nat.{ℕ, _-_, _≤_, _<_}
+use mathlib.Core.Path.{_≡_, sym, _∙_}
+use mathlib.Core.Bool.{true, false, false≢true}
 use native.Mathlib.Decide.{decLt}
 use native.Mathlib.Omega.{arith}
 use borrow.Author.Tests.{eq-eqb}
 use lib.Dec.{eqb}
+use Rattle.places.proofs.Some.{none-at}
+use Rattle.places.proofs.Onto.{Numbering, onto}
 use Rattle.sheet.specs.declared.Record.{Record}
-use Rattle.sheet.specs.Places.{someBelow}
 use Rattle.sheet.specs.Rules.{taken, recordsRefusal}
-use Rattle.sheet.proofs.Editions.{neither}
 use Rattle.sheet.proofs.Cases.{good-at}
-use Rattle.sheet.proofs.Onto.{Numbering, onto}
-
--- a test that holds at no place below n fails at each of them
-pub none-at : (test : ℕ → Bool) (n k : ℕ) → k < n → someBelow test n ≡ false → test k ≡ false
-unfolding someBelow
-none-at test zero k below none = absurd (not-suc-le-zero below)
-none-at test (suc n) k below none =
-    let both = neither (someBelow test n) (test n) none in
-    ⊎-elim (λ e. ap test e ∙ both .1) (λ lt. none-at test n k lt (both .0)) (eq-or-lt-of-le (le-of-suc-le-suc below))
 
 module _ (n : ℕ) (at : ℕ → Record) (good : recordsRefusal n at ≡ 0) where
   -- no record has the priority of an earlier one

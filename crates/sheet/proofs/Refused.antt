@@ -2,7 +2,7 @@
 -- buffers stay as they were"; what stands beside 0 where a table is read; and when 11 and 12, which are tried after the rules, are given. Assumes nothing.
 use Prim.Native.Nat.{ℕ, _+_, _*_, _≤_, _<_}
 use mathlib.Core.Path.{_≡_, refl, sym, ap, subst, _∙_}
-use mathlib.Core.Bool.{Bool, true, false, cond, false≢true}
+use mathlib.Core.Bool.{Bool, cond}
 use mathlib.Core.List.{List, []}
 use mathlib.Core.Logic.{_⊎_, _↔_, ⊎-elim}
 use native.Mathlib.Decide.{ℕ-discrete}
@@ -12,19 +12,19 @@ use borrow.Author.Tests.{ne-eqb}
 use lib.Dec.{eqb}
 use lib.ListN.{length, getD, replicate, getD-replicate}
 use denote.Ref.{RefT, now}
+use Rattle.places.specs.Refusals.{orElse}
+use Rattle.places.proofs.Tells.{Tells, holds, fails, ltb-tells}
+use Rattle.places.proofs.Filled.{length-filled, filled-at, filled-past}
+use Rattle.places.proofs.Refusals.{next-of, first-of, none-of}
 use Rattle.sheet.specs.declared.Record.{Record}
 use Rattle.sheet.specs.declared.Table.{Table}
 use Rattle.sheet.specs.declared.Excerpt.{Excerpt}
-use Rattle.sheet.specs.Places.{orElse}
 use Rattle.sheet.specs.Layout.{countOf, intervalOf, roundOf, shareOf, headerSize, tableEdition, tableSize, sizeOf, partOf, recordOf, sheetRecord, room, tableOf, noRecord, noTable}
 use Rattle.sheet.specs.Rules.{headerRefusal, sheetRefusal, tableRefusal}
 use Rattle.sheet.specs.Broken.{RuleNumber}
 use Rattle.sheet.specs.Answers.{readAnswer, unjudgedAnswer, writeRefusal, writeAnswer, writeLeaves, placeRefusal, partStart, partBytes, Part, Excerpted}
-use Rattle.sheet.proofs.Turns.{next-of, first-of, none-of, length-filled}
-use Rattle.sheet.proofs.Tells.{Tells, holds, fails, ltb-tells}
 use Rattle.sheet.proofs.Order.{sheet-in-order, table-in-order}
 use Rattle.sheet.proofs.Cases.{good-header, good-sheet}
-use Rattle.sheet.proofs.Agree.{filled-at, filled-past}
 
 -- a number that is none of the rules' and is tried after them
 module _ (rule number : ℕ) (known : (rule ≡ 0) ⊎ RuleNumber rule) (new : (10 < number) × (number ≡ 18 → ⊥)) where
@@ -53,11 +53,6 @@ module _ (rule number : ℕ) (known : (rule ≡ 0) ⊎ RuleNumber rule) (new : (
   pub passed-if : {P : Type 0} {b : Bool} → Tells P b → (orElse rule (cond b 0 number) ≡ 0) ↔ ((rule ≡ 0) × P)
   passed-if (holds p) = (λ e. (none-of rule 0 e .0, p), λ h. next-of 0 (h .0))
   passed-if (fails n) = (λ e. absurd (omega (arith, none-of rule number e .1)), λ h. absurd (n (h .1)))
-
--- a test tells that it is true
-pub tests : (b : Bool) → Tells (b ≡ true) b
-tests true = holds refl
-tests false = fails false≢true
 
 -- The law of every call that refuses: it answers its number, and beside it a value where the number is 0 and nothing of that kind where it is not
 module _ {A : Type 0} (refusal : ℕ) (value nothing : A) where

@@ -3,51 +3,24 @@
 use Prim.Native.Nat.{ℕ, zero, suc, _+_, _*_, _≤_, _<_}
 use mathlib.Core.Path.{_≡_, refl, sym, ap, ap₂, _∙_, subst}
 use mathlib.Core.List.{List, [], _∷_, _++_}
-use mathlib.Core.Logic.{_⊎_, ⊎-elim}
-use native.Mathlib.Nat.{eq-or-lt-of-le, le-of-suc-le-suc, not-suc-le-zero, mul-zero, mul-suc, mul-le-mul-left, le-of-eq}
 use native.Mathlib.Omega.{arith}
 use lib.Dec.{lit<}
 use lib.ListN.{length, getD, take, drop, length-drop, length-replicate, take-append-drop, drop-of-length-le, List·getD-eq-default}
-use lib.Seq.{getD-drop, take-all, take-add, take-at, take-take, drop-at, drop-drop, drop-append-le, take-append-le, length-take-le}
+use lib.Seq.{getD-drop, take-all, take-at, take-take, drop-at, drop-drop, length-take-le}
+use Rattle.places.specs.Places.{joinedBelow}
+use Rattle.places.proofs.Agree.{Agree, joined-agree}
+use Rattle.places.proofs.Joined.{joined-runs, run-at}
 use Rattle.sheet.specs.declared.Record.{Record}
 use Rattle.sheet.specs.declared.Table.{Table}
-use Rattle.sheet.specs.Places.{joinedBelow}
 use Rattle.sheet.specs.Packing.{bitsOf, regrouped}
 use Rattle.sheet.specs.Layout.{headerWidths, headerSize, recordWidths, bytes, headerOf, countOf, editionOf, intervalOf, newField, roundOf, shareOf, startOf, sizeOf, partOf, recordFrom, fieldsOf, recordOf, sheetRecord, recordAt, room, tableOf, cleared, isWhole, editionFor, tableEdition, tableSize, recordBytes, headerFields, headerBytes, sheetOf}
 use Rattle.sheet.proofs.Packing.{Fit, none, one, fit-regrouped, regrouped-back}
 use Rattle.sheet.proofs.Editions.{Edition, old, new, edition-of, edition-low, whole-old, shared-new, right-share}
 use Rattle.sheet.proofs.Spelled.{spelled-take, listed, Bytes, bytes-fit, fit-bytes, pairs, header-spelled, Sized, fields-fit}
-use Rattle.sheet.proofs.Stores.{length-joined, length-regrouped, length-record, length-header, length-sheet}
+use Rattle.sheet.proofs.Stores.{length-regrouped, length-record, length-header, length-sheet}
 use Rattle.sheet.proofs.Parts.{part-nine}
 use Rattle.sheet.proofs.Cases.{GoodHeader, GoodTable, good-at}
-use Rattle.sheet.proofs.Agree.{Agree, joined-agree, room-agree, room-at}
-
--- runs of w elements of a list, one after the other, are the list's start
-pub joined-runs : (w : ℕ) (l : List ℕ) (n : ℕ) → joinedBelow (λ k. take w (drop (w * k) l)) n ≡ take (w * n) l
-unfolding joinedBelow
-joined-runs w l zero = ap (λ (k : ℕ). take k l) (sym (mul-zero w))
-joined-runs w l (suc n) = ap (λ (r : List ℕ). r ++ take w (drop (w * n) l)) (joined-runs w l n) ∙ sym (take-add (w * n) w l) ∙ ap (λ (k : ℕ). take k l) (sym (mul-suc w n))
-
--- each place of w bytes stands at its own run
-pub run-at : (w : ℕ) (f : ℕ → List ℕ) → ((k : ℕ) → length (f k) ≡ w) → (n k : ℕ) → k < n → take w (drop (w * k) (joinedBelow f n)) ≡ f k
-unfolding joinedBelow
-run-at w f each zero k h = absurd (not-suc-le-zero h)
-run-at w f each (suc n) k h = go (run-at w f each n k) (eq-or-lt-of-le (le-of-suc-le-suc h))
-  where
-    whole : length (joinedBelow f n) ≡ w * n
-    whole = length-joined f w each n
-
-    last : k ≡ n → take w (drop (w * k) (joinedBelow f n ++ f n)) ≡ f k
-    last e = rw e (ap (take w) (drop-at (joinedBelow f n) (f n) (w * n) whole) ∙ take-all w (f n) (le-of-eq (each n)))
-
-    earlier : k < n → take w (drop (w * k) (joinedBelow f n)) ≡ f k → take w (drop (w * k) (joinedBelow f n ++ f n)) ≡ f k
-    earlier lt before =
-        let room : w * k + w ≤ length (joinedBelow f n) = subst (λ (m : ℕ). w * k + w ≤ m) (sym whole) (subst (λ (m : ℕ). m ≤ w * n) (mul-suc w k) (mul-le-mul-left w lt)) in
-        ap (take w) (drop-append-le (w * k) (joinedBelow f n) (f n) (omega arith))
-        ∙ take-append-le w (drop (w * k) (joinedBelow f n)) (f n) (simp length-drop (omega arith)) ∙ before
-
-    go : (k < n → take w (drop (w * k) (joinedBelow f n)) ≡ f k) → (k ≡ n) ⊎ (k < n) → take w (drop (w * k) (joinedBelow f n ++ f n)) ≡ f k
-    go before side = ⊎-elim last (λ lt. earlier lt (before lt)) side
+use Rattle.sheet.proofs.Agree.{room-agree, room-at}
 
 -- bytes cut out of bytes are bytes
 pub bytes-take : (n : ℕ) (l : List ℕ) → Bytes l → Bytes (take n l)

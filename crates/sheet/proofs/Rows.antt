@@ -4,8 +4,8 @@ use Prim.Native.Nat.{ℕ}
 use mathlib.Core.Path.{_≡_, refl}
 use mathlib.Core.List.{List, [], _∷_}
 use lib.ListN.{replicate}
+use Rattle.places.specs.Places.{joinedBelow, filledBelow}
 use Rattle.sheet.specs.declared.Table.{Table}
-use Rattle.sheet.specs.Places.{joinedBelow, filledBelow}
 use Rattle.sheet.specs.Packing.{regrouped}
 use Rattle.sheet.specs.Layout.{headerOf, countOf, editionOf, intervalOf, roundOf, shareOf, startOf, partOf, recordFrom, fieldsOf, recordOf, sheetRecord, recordAt, room, tableOf, isWhole, editionFor, recordBytes, headerFields, headerBytes, sheetOf}
 

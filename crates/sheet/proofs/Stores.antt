@@ -1,14 +1,15 @@
 -- Runs of stores: one run after another, and the lengths of what the layout puts. Assumes nothing.
-use Prim.Native.Nat.{ℕ, zero, suc, _+_, _*_, _%_, _^_, _≤_, _<_}
+use Prim.Native.Nat.{ℕ, suc, _+_, _*_, _%_, _^_, _≤_, _<_}
 use mathlib.Core.Path.{_≡_, refl, sym, ap, ap₂, subst, _∙_}
 use mathlib.Core.List.{List, [], _∷_, _++_}
-use native.Mathlib.Nat.{zero-add, add-zero, add-suc, suc-add, mul-zero, mul-suc}
+use native.Mathlib.Nat.{zero-add, add-zero, add-suc, suc-add}
 use native.Mathlib.Numerals.{towards-suc}
 use lib.ListN.{length, set, take, drop, length-append, length-replicate}
 use lib.Seq.{sets, sets-eq}
+use Rattle.places.specs.Places.{joinedBelow}
+use Rattle.places.proofs.Joined.{length-joined}
 use Rattle.sheet.specs.declared.Record.{Record}
 use Rattle.sheet.specs.declared.Table.{Table}
-use Rattle.sheet.specs.Places.{joinedBelow}
 use Rattle.sheet.specs.Packing.{bitsOf, packed, unpacked, regrouped}
 use Rattle.sheet.specs.Layout.{bytes, headerSize, sizeOf, tableEdition, tableSize, recordAt, recordBytes, headerFields, headerBytes, sheetOf}
 use Rattle.sheet.proofs.Editions.{Edition, old, new}
@@ -27,13 +28,6 @@ length-unpacked (u ∷ us) n = ap suc (length-unpacked us (n % 2 ^ bitsOf us))
 pub length-regrouped : (ws us vs : List ℕ) → length (regrouped ws us vs) ≡ length us
 unfolding regrouped
 length-regrouped ws us vs = length-unpacked us (packed ws vs)
-
--- so many bytes for each place
-pub length-joined : (f : ℕ → List ℕ) (w : ℕ) → ((k : ℕ) → length (f k) ≡ w) → (n : ℕ) → length (joinedBelow f n) ≡ w * n
-unfolding joinedBelow
-length-joined f w each zero = sym (mul-zero w)
-length-joined f w each (suc n) =
-    length-append (joinedBelow f n) (f n) ∙ ap (λ (k : ℕ). k + length (f n)) (length-joined f w each n) ∙ ap (λ (k : ℕ). w * n + k) (each n) ∙ sym (mul-suc w n)
 
 pub length-record : (r : Record) → length (recordBytes r) ≡ 9
 unfolding recordBytes

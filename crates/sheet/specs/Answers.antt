@@ -6,13 +6,20 @@ use mathlib.Core.List.{List, [], _++_}
 use lib.Dec.{eqb, ltb}
 use lib.ListN.{length, drop}
 use denote.Ref.{RefT, now}
+use Rattle.places.specs.Refusals.{orElse}
 use Rattle.sheet.specs.declared.Table.{Table}
+use Rattle.sheet.specs.declared.Said.{Said}
+use Rattle.sheet.specs.declared.Judged.{Judged}
 use Rattle.sheet.specs.declared.Reading.{Reading}
 use Rattle.sheet.specs.declared.Writing.{Writing}
+use Rattle.sheet.specs.declared.Start.{Start}
 use Rattle.sheet.specs.declared.Excerpt.{Excerpt}
-use Rattle.sheet.specs.Places.{orElse}
-use Rattle.sheet.specs.Layout.{countOf, startOf, partOf, tableOf, noTable, tableSize, sheetOf}
-use Rattle.sheet.specs.Rules.{headerRefusal, sheetRefusal, tableRefusal}
+use Rattle.sheet.specs.Layout.{countOf, startOf, saidSize, partOf, tableOf, noTable, tableSize, sheetOf}
+use Rattle.sheet.specs.Rules.{sizeRefusal, headerRefusal, sheetRefusal, tableRefusal, brokenPlace, wholeSheetRefusal}
+
+-- `said_size`: the refusal of rules 1 to 3 beside the bytes that the sheet has by its header, 0 where it is refused
+unfoldable pub sizeAnswer : List ℕ → Said
+sizeAnswer sheet = record { refusal = sizeRefusal sheet; size = cond (eqb (sizeRefusal sheet) 0) (saidSize sheet) 0 }
 
 -- `read`: the refusal beside the table, a zero table where the sheet is refused
 unfoldable pub readAnswer : List ℕ → Reading
@@ -21,6 +28,14 @@ readAnswer sheet = record { refusal = sheetRefusal sheet; table = cond (eqb (she
 -- `read_unjudged`: the header's refusal beside the table, its records as they stand; a zero table where the header is refused
 unfoldable pub unjudgedAnswer : List ℕ → Reading
 unjudgedAnswer sheet = record { refusal = headerRefusal sheet; table = cond (eqb (headerRefusal sheet) 0) (tableOf sheet) noTable }
+
+-- `read_whole`: the same with 19 for a shared processor after the sheet's refusal
+unfoldable pub wholeAnswer : List ℕ → Reading
+wholeAnswer sheet = record { refusal = wholeSheetRefusal sheet; table = cond (eqb (wholeSheetRefusal sheet) 0) (tableOf sheet) noTable }
+
+-- `judge_table_at`: the table's refusal beside the place of the record that breaks the rule
+unfoldable pub judgedAnswer : Table → Judged
+judgedAnswer t = record { refusal = tableRefusal t; place = brokenPlace t }
 
 -- the refusal of a write: the table's, then 11, "the lent output is shorter than what is to be written"
 unfoldable pub writeRefusal : Table → List ℕ → ℕ
@@ -41,6 +56,10 @@ placeRefusal sheet place = orElse (sheetRefusal sheet) (cond (ltb place (countOf
 -- where in the sheet the part handed back starts: at the record, or at the sheet's start where it is refused
 unfoldable pub partStart : List ℕ → ℕ → ℕ
 partStart sheet place = cond (eqb (placeRefusal sheet place) 0) (startOf sheet + 9 * place) 0
+
+-- `record_start`: the refusal of `judge_place` beside that start
+unfoldable pub startAnswer : List ℕ → ℕ → Start
+startAnswer sheet place = record { refusal = placeRefusal sheet place; start = partStart sheet place }
 
 -- its bytes: the record's nine, or none
 unfoldable pub partBytes : List ℕ → ℕ → List ℕ

@@ -1,13 +1,14 @@
--- The refusals row by row, in the order they are tried, as propositions: document 01's table with what document 02, ask 6, made of it; and what it is for a refusal to be given in that order. A second reading, which the refusals are proved to follow; no public promise cites it. Assumes nothing.
+-- The refusals row by row, in the order they are tried, as propositions: document 01's table with what document 02, request 6, made of it. A second reading, which the refusals are proved to follow; no public promise cites it. Assumes nothing.
 use Prim.Native.Nat.{ℕ, _+_, _*_, _≤_, _<_}
 use mathlib.Core.Path.{_≡_}
-use mathlib.Core.Logic.{_⊎_, _↔_}
+use mathlib.Core.Logic.{_⊎_}
 use mathlib.Core.List.{List, [], _∷_, _++_}
 use lib.ListN.{length}
+use Rattle.places.specs.Places.{joinedBelow}
+use Rattle.places.specs.Refusals.{Row, row}
 use Rattle.sheet.specs.declared.Record.{Record}
 use Rattle.sheet.specs.declared.Table.{Table}
-use Rattle.sheet.specs.Places.{joinedBelow}
-use Rattle.sheet.specs.Layout.{countOf, editionOf, intervalOf, roundOf, shareOf, sheetRecord, recordAt}
+use Rattle.sheet.specs.Layout.{countOf, editionOf, intervalOf, roundOf, shareOf, sheetRecord, recordAt, tableOf}
 
 -- "0 or above" a limit, which is "outside 1 to" that limit
 abbrev pub Outside : ℕ → ℕ → Type 0
@@ -16,10 +17,6 @@ Outside x limit = (x ≡ 0) ⊎ (limit < x)
 -- "S zero or not below Q"
 abbrev pub WrongShare : ℕ → ℕ → Type 0
 WrongShare round share = (share ≡ 0) ⊎ (round ≤ share)
-
--- a row of the table: its number, and what it is "given exactly when"
-pub data Row : Type 1 where
-  row : ℕ → Type 0 → Row
 
 -- "the count is 0 or above 8"
 abbrev pub countRow : ℕ → Row
@@ -81,25 +78,14 @@ figuresRows t =
 abbrev pub tableRows : Table → List Row
 tableRows t = figuresRows t ++ recordsRows (t .count) (recordAt (t .records))
 
--- no rule is broken
-abbrev pub NoneBroken : List Row → Type 0
-NoneBroken [] = Unit
-NoneBroken (row number reason ∷ rows) = (reason → ⊥) × NoneBroken rows
-
--- r is the number of the first row, in the order of the list, whose rule is broken
-abbrev pub FirstBroken : List Row → ℕ → Type 0
-FirstBroken [] r = ⊥
-FirstBroken (row number reason ∷ rows) r = ((r ≡ number) × reason) ⊎ ((reason → ⊥) × FirstBroken rows r)
+-- what is tried on a sheet where a whole processor is asked for: its own rules, and "19, after a sheet's own, for a shared processor", which is any but Q = S = 1
+abbrev pub wholeRows : List ℕ → List Row
+wholeRows sheet = sheetRows sheet ++ row 19 ((tableOf sheet .round ≡ 1) × (tableOf sheet .share ≡ 1) → ⊥) ∷ []
 
 -- the numbers of the rows of a sheet and of a table
 abbrev pub RuleNumber : ℕ → Type 0
 RuleNumber r = ((1 ≤ r) × (r ≤ 10)) ⊎ (r ≡ 18)
 
--- The refusal numbers are given "in the order they are tried": what each value of a refusal means, of rows with the given numbers.
-pub record InOrder (Number : ℕ → Type 0) (rows : List Row) (refusal : ℕ) : Type 0 where
-  -- it is a number exactly when that is the first rule to be broken
-  pub first-order : (r : ℕ) → 1 ≤ r → (refusal ≡ r) ↔ FirstBroken rows r
-  -- it is 0 exactly when no rule is broken
-  pub good-order : (refusal ≡ 0) ↔ NoneBroken rows
-  -- it is no other number
-  pub range : (refusal ≡ 0) ⊎ Number refusal
+-- and of those of a sheet where a whole processor is asked for
+abbrev pub WholeNumber : ℕ → Type 0
+WholeNumber r = RuleNumber r ⊎ (r ≡ 19)

@@ -4,9 +4,9 @@ use mathlib.Core.Bool.{Bool, cond, _&&_}
 use mathlib.Core.List.{List, [], _∷_, _++_}
 use lib.Dec.{eqb}
 use lib.ListN.{getD, take, drop, replicate}
+use Rattle.places.specs.Places.{joinedBelow, filledBelow}
 use Rattle.sheet.specs.declared.Record.{Record}
 use Rattle.sheet.specs.declared.Table.{Table}
-use Rattle.sheet.specs.Places.{joinedBelow, filledBelow}
 use Rattle.sheet.specs.Packing.{regrouped}
 
 -- Document 01: "Header, 3 bytes: task count (4 bits), reserved (4 bits, zero), fault interval E (16 bits)."
@@ -61,6 +61,10 @@ startOf sheet = headerSize (editionOf sheet)
 -- the bytes of a sheet of n tasks in an edition: 3 + 9n, or 7 + 9n
 unfoldable pub sizeOf : ℕ → ℕ → ℕ
 sizeOf edition n = headerSize edition + 9 * n
+
+-- the bytes that a sheet has by its own count and edition, up to the end of its last record
+abbrev pub saidSize : List ℕ → ℕ
+saidSize sheet = sizeOf (editionOf sheet) (countOf sheet)
 
 -- the nine bytes of the record at a place k, from 3 + 9k to 12 + 9k, or from 7 + 9k to 16 + 9k
 unfoldable pub partOf : List ℕ → ℕ → List ℕ

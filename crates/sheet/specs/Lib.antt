@@ -1,5 +1,4 @@
 -- What a reader of the crate's promises must believe, in the order of document 01.
-pub mod Places
 pub mod Packing
 pub mod Layout
 pub mod Rules

@@ -1,13 +1,15 @@
--- The rules that a sheet and a table by value are judged by, in the order they are tried: 1 to 5 with 1 again after 3, 18, and 6 to 10 for each record.
-use Prim.Native.Nat.{ℕ}
+-- The rules that a sheet and a table by value are judged by, in the order they are tried: 1 to 5 with 1 again after 3, 18, and 6 to 10 for each record; and 19 where a whole processor is asked for.
+use Prim.Native.Nat.{ℕ, zero, suc}
 use mathlib.Core.Bool.{Bool, cond, not, _&&_, _||_}
 use mathlib.Core.List.{List}
 use lib.Dec.{eqb, ltb, leb}
 use lib.ListN.{length}
+use Rattle.places.specs.Places.{someBelow}
+use Rattle.places.specs.Refusals.{orElse, firstBelow}
 use Rattle.sheet.specs.declared.Record.{Record}
 use Rattle.sheet.specs.declared.Table.{Table}
-use Rattle.sheet.specs.Places.{orElse, firstBelow, someBelow}
-use Rattle.sheet.specs.Layout.{countOf, editionOf, intervalOf, roundOf, shareOf, startOf, sizeOf, tableEdition, sheetRecord, recordAt}
+use Rattle.sheet.specs.declared.Judged.{Judged}
+use Rattle.sheet.specs.Layout.{countOf, editionOf, intervalOf, roundOf, shareOf, startOf, saidSize, sheetRecord, recordAt, tableOf, isWhole, tableEdition}
 
 -- "0 or above" a limit, which is outside 1 to that limit
 unfoldable pub outside : ℕ → ℕ → Bool
@@ -39,26 +41,59 @@ recordsRefusal n at = firstBelow (recordRefusal n at) n
 unfoldable pub wrongShare : ℕ → ℕ → ℕ → Bool
 wrongShare edition round share = not (eqb edition 0) && (eqb share 0 || leb round share)
 
--- Rules 1 to 5 and 18 in the order they are tried, document 01's "the sheet has fewer than 3 bytes", "the count is 0 or above 8", "the length is not 3 + 9 × count", "E is 0", and document 02's
--- "3 now means reserved bits above 1; 1 also means fewer than 7 bytes in the new edition, tried after 3", "so its length is 7 + 9n", "18, S zero or not below Q, is tried after 5".
-unfoldable pub headerRefusal : List ℕ → ℕ
-headerRefusal sheet =
+-- Rules 1 to 3, which keep a header from saying how long its sheet is: document 01's "the sheet has fewer than 3 bytes", "the count is 0 or above 8", and document 02's "3 now means reserved bits above 1"
+abbrev pub sizeRefusal : List ℕ → ℕ
+sizeRefusal sheet =
     cond (ltb (length sheet) 3) 1
     (cond (outside (countOf sheet) 8) 2
-    (cond (ltb 1 (editionOf sheet)) 3
+    (cond (ltb 1 (editionOf sheet)) 3 0))
+
+-- Rules 1 to 5 and 18 in the order they are tried: these, then document 02's "1 also means fewer than 7 bytes in the new edition, tried after 3", document 01's "the length is not 3 + 9 × count" with document 02's
+-- "so its length is 7 + 9n", document 01's "E is 0", and document 02's "18, S zero or not below Q, is tried after 5".
+unfoldable pub headerRefusal : List ℕ → ℕ
+headerRefusal sheet =
+    orElse (sizeRefusal sheet)
     (cond (ltb (length sheet) (startOf sheet)) 1
-    (cond (not (eqb (length sheet) (sizeOf (editionOf sheet) (countOf sheet)))) 4
+    (cond (not (eqb (length sheet) (saidSize sheet))) 4
     (cond (eqb (intervalOf sheet) 0) 5
-    (cond (wrongShare (editionOf sheet) (roundOf sheet) (shareOf sheet)) 18 0))))))
+    (cond (wrongShare (editionOf sheet) (roundOf sheet) (shareOf sheet)) 18 0))))
 
 -- a sheet's refusal: its header's, then its records'
 unfoldable pub sheetRefusal : List ℕ → ℕ
 sheetRefusal sheet = orElse (headerRefusal sheet) (recordsRefusal (countOf sheet) (sheetRecord sheet))
 
--- "A table handed in by value is judged by the same rules where they apply (2, 5 to 10), and its records past the count are ignored."; and 18 "on tables by value too but for that one", Q = S = 1, which is the old edition's
-unfoldable pub tableRefusal : Table → ℕ
-tableRefusal t =
+-- rules 2, 5 and 18 on a table's figures, which are tried before its records; 18 "on tables by value too but for that one", Q = S = 1, which is the old edition's
+abbrev pub figuresRefusal : Table → ℕ
+figuresRefusal t =
     cond (outside (t .count) 8) 2
     (cond (eqb (t .interval) 0) 5
-    (cond (wrongShare (tableEdition t) (t .round) (t .share)) 18
-    (recordsRefusal (t .count) (recordAt (t .records)))))
+    (cond (wrongShare (tableEdition t) (t .round) (t .share)) 18 0))
+
+-- "A table handed in by value is judged by the same rules where they apply (2, 5 to 10), and its records past the count are ignored."
+unfoldable pub tableRefusal : Table → ℕ
+tableRefusal t = orElse (figuresRefusal t) (recordsRefusal (t .count) (recordAt (t .records)))
+
+-- the first place below n that is refused; 0 where none is
+unfoldable pub brokenBelow : (ℕ → ℕ) → ℕ → ℕ
+brokenBelow refusal zero = 0
+brokenBelow refusal (suc n) = cond (eqb (firstBelow refusal n) 0) (cond (eqb (refusal n) 0) 0 n) (brokenBelow refusal n)
+
+-- records judged: the refusal beside the place of the record that it is given for
+unfoldable pub recordsJudged : ℕ → (ℕ → Record) → Judged
+recordsJudged n at = record { refusal = recordsRefusal n at; place = brokenBelow (recordRefusal n at) n }
+
+-- the place of the record that a table is refused for: the first that breaks a rule of 6 to 10; 0 beside a refusal that is no record's, and where there is none
+unfoldable pub brokenPlace : Table → ℕ
+brokenPlace t = cond (eqb (figuresRefusal t) 0) (brokenBelow (recordRefusal (t .count) (recordAt (t .records))) (t .count)) 0
+
+-- "19 .. for a shared processor": 0 for the whole one
+unfoldable pub sharedRefusal : Table → ℕ
+sharedRefusal t = cond (isWhole (t .round) (t .share)) 0 19
+
+-- what a table is refused for where a whole processor is asked for: its own rules, then that
+abbrev pub wholeRefusal : Table → ℕ
+wholeRefusal t = orElse (tableRefusal t) (sharedRefusal t)
+
+-- the same of a sheet: "19, after a sheet's own, for a shared processor"
+unfoldable pub wholeSheetRefusal : List ℕ → ℕ
+wholeSheetRefusal sheet = orElse (sheetRefusal sheet) (sharedRefusal (tableOf sheet))

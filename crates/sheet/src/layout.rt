@@ -4,8 +4,8 @@ ghost use mathlib.Core.List.{[], _∷_, _++_};
 ghost use Prim.Native.Nat.{_+_, _*_, _/_, _%_, _≤_, _<_};
 ghost use lib.ListN.{length, getD, drop};
 ghost use lib.Seq.{sets};
-ghost use Rattle.sheet.specs.Layout.{countOf, editionOf, intervalOf, newField, roundOf, shareOf, headerSize, startOf, sizeOf, editionFor, tableEdition, tableSize, recordOf, room, sheetRecord, tableOf, noRecord, noTable, recordAt, recordBytes, headerBytes, sheetOf};
-ghost use Rattle.sheet.specs.Places.{joinedBelow};
+ghost use Rattle.places.specs.Places.{joinedBelow};
+ghost use Rattle.sheet.specs.Layout.{countOf, editionOf, intervalOf, newField, roundOf, shareOf, headerSize, startOf, sizeOf, saidSize, editionFor, tableEdition, tableSize, recordOf, room, sheetRecord, tableOf, recordAt, recordBytes, headerBytes, sheetOf};
 ghost use Rattle.sheet.specs.Rules.{recordsRefusal, tableRefusal};
 use crate::Record;
 use crate::Table;
@@ -44,7 +44,10 @@ pub fn interval(sheet: &[u8]) -> u16
 
 // One of the two fields that only the new edition's header has, 1 in the old one.
 fn new_field(sheet: &[u8], index: usize) -> u16
-    requires { ⌜ (3 ≤ length (now sheet)) × (editionOf (now sheet) ≤ 1) × (startOf (now sheet) ≤ length (now sheet)) × (index < 2) ⌝ }
+    requires long { ⌜ 3 ≤ length (now sheet) ⌝ }
+    requires known { ⌜ editionOf (now sheet) ≤ 1 ⌝ }
+    requires header { ⌜ startOf (now sheet) ≤ length (now sheet) ⌝ }
+    requires new { ⌜ index < 2 ⌝ }
     ensures { λ r. ⌜ r ≡ newField (now (sheet .entry)) index ⌝ }
 {
     if edition(sheet) == 0 {
@@ -55,7 +58,9 @@ fn new_field(sheet: &[u8], index: usize) -> u16
 
 // The header's round, 1 in the edition that has none.
 pub fn round(sheet: &[u8]) -> u16
-    requires { ⌜ (3 ≤ length (now sheet)) × (editionOf (now sheet) ≤ 1) × (startOf (now sheet) ≤ length (now sheet)) ⌝ }
+    requires long { ⌜ 3 ≤ length (now sheet) ⌝ }
+    requires known { ⌜ editionOf (now sheet) ≤ 1 ⌝ }
+    requires header { ⌜ startOf (now sheet) ≤ length (now sheet) ⌝ }
     ensures { λ r. ⌜ r ≡ roundOf (now (sheet .entry)) ⌝ }
 {
     new_field(sheet, 0)
@@ -63,7 +68,9 @@ pub fn round(sheet: &[u8]) -> u16
 
 // The header's share of the round, 1 in the edition that has none.
 pub fn share(sheet: &[u8]) -> u16
-    requires { ⌜ (3 ≤ length (now sheet)) × (editionOf (now sheet) ≤ 1) × (startOf (now sheet) ≤ length (now sheet)) ⌝ }
+    requires long { ⌜ 3 ≤ length (now sheet) ⌝ }
+    requires known { ⌜ editionOf (now sheet) ≤ 1 ⌝ }
+    requires header { ⌜ startOf (now sheet) ≤ length (now sheet) ⌝ }
     ensures { λ r. ⌜ r ≡ shareOf (now (sheet .entry)) ⌝ }
 {
     new_field(sheet, 1)
@@ -95,10 +102,7 @@ pub fn size(edition: u8, count: u8) -> usize
 pub fn edition_for(round: u16, share: u16) -> u8
     ensures { λ r. ⌜ r ≡ editionFor round share ⌝ }
 {
-    if round != 1 {
-        return 1;
-    }
-    if share == 1 { 0 } else { 1 }
+    if crate::is_whole(round, share) { 0 } else { 1 }
 }
 
 // The priority that a record's nine bytes hold.
@@ -124,39 +128,13 @@ pub fn record_from(part: &[u8]) -> Record
     }
 }
 
-// A record of zeros.
-fn no_record() -> Record
-    ensures { λ r. ⌜ r ≡ noRecord ⌝ }
-{
-    Record {
-        cost: 0,
-        backup: 0,
-        deadline: 0,
-        period: 0,
-        priority: 0,
-        fault_priority: 0,
-    }
-}
-
-// A table of zeros.
-pub fn no_table() -> Table
-    ensures { λ r. ⌜ r ≡ noTable ⌝ }
-{
-    Table {
-        count: 0,
-        interval: 0,
-        round: 0,
-        share: 0,
-        records: [no_record(); 8],
-    }
-}
-
 // The records of a sheet, zero past the count.
 pub fn records_of(sheet: &[u8], count: u8) -> [Record; 8]
-    requires { ⌜ (count ≤ 8) × (length (now sheet) ≡ sizeOf (editionOf (now sheet)) count) ⌝ }
+    requires few { ⌜ count ≤ 8 ⌝ }
+    requires sized { ⌜ length (now sheet) ≡ sizeOf (editionOf (now sheet)) count ⌝ }
     ensures { λ r. ⌜ r ≡ room (sheetRecord (now (sheet .entry))) count ⌝ }
 {
-    let mut records = [no_record(); 8];
+    let mut records = [crate::no_record(); 8];
     let first = start(sheet);
     let mut place: usize = 0;
     while place < count as usize {
@@ -170,7 +148,9 @@ pub fn records_of(sheet: &[u8], count: u8) -> [Record; 8]
 
 // The table that a sheet of the right length holds.
 pub fn table_of(sheet: &[u8]) -> Table
-    requires { ⌜ (countOf (now sheet) ≤ 8) × (editionOf (now sheet) ≤ 1) × (length (now sheet) ≡ sizeOf (editionOf (now sheet)) (countOf (now sheet))) ⌝ }
+    requires few { ⌜ countOf (now sheet) ≤ 8 ⌝ }
+    requires known { ⌜ editionOf (now sheet) ≤ 1 ⌝ }
+    requires sized { ⌜ length (now sheet) ≡ saidSize (now sheet) ⌝ }
     ensures { λ r. ⌜ r ≡ tableOf (now (sheet .entry)) ⌝ }
 {
     let tasks = count(sheet);
@@ -195,7 +175,9 @@ fn put_field(out: &mut [u8], at: usize, value: u16)
 
 // Puts a record's nine bytes.
 fn put_record(out: &mut [u8], at: usize, task: Record)
-    requires { ⌜ (at + 9 ≤ length (now out)) × (task .priority < 16) × (task .«fault_priority» < 16) ⌝ }
+    requires room { ⌜ at + 9 ≤ length (now out) ⌝ }
+    requires priority { ⌜ task .priority < 16 ⌝ }
+    requires fault { ⌜ task .«fault_priority» < 16 ⌝ }
     ensures { λ _. ⌜ now (out .exit) ≡ sets (now (out .entry)) at (recordBytes task) ⌝ }
 {
     put_field(out, at, task.cost);
@@ -207,7 +189,9 @@ fn put_record(out: &mut [u8], at: usize, task: Record)
 
 // Puts the records from a start on.
 fn put_records(out: &mut [u8], start: usize, records: [Record; 8], count: u8)
-    requires { ⌜ (count ≤ 8) × (start + 9 * count ≤ length (now out)) × (recordsRefusal count (recordAt records) ≡ 0) ⌝ }
+    requires few { ⌜ count ≤ 8 ⌝ }
+    requires room { ⌜ start + 9 * count ≤ length (now out) ⌝ }
+    requires good { ⌜ recordsRefusal count (recordAt records) ≡ 0 ⌝ }
     ensures { λ _. ⌜ now (out .exit) ≡ sets (now (out .entry)) start (joinedBelow (λ place. recordBytes (recordAt records place)) count) ⌝ }
 {
     let mut place: usize = 0;
@@ -219,7 +203,8 @@ fn put_records(out: &mut [u8], start: usize, records: [Record; 8], count: u8)
 
 // Puts the header of a table's edition.
 fn put_header(out: &mut [u8], table: Table)
-    requires { ⌜ (headerSize (tableEdition table) ≤ length (now out)) × (table .count < 16) ⌝ }
+    requires room { ⌜ headerSize (tableEdition table) ≤ length (now out) ⌝ }
+    requires few { ⌜ table .count < 16 ⌝ }
     ensures { λ _. ⌜ now (out .exit) ≡ sets (now (out .entry)) 0 (headerBytes table) ⌝ }
 {
     let edition = edition_for(table.round, table.share);
@@ -234,7 +219,8 @@ fn put_header(out: &mut [u8], table: Table)
 
 // Puts a good table's sheet at the start of an output that is long enough.
 pub fn put_sheet(out: &mut [u8], table: Table)
-    requires { ⌜ (tableRefusal table ≡ 0) × (tableSize table ≤ length (now out)) ⌝ }
+    requires good { ⌜ tableRefusal table ≡ 0 ⌝ }
+    requires room { ⌜ tableSize table ≤ length (now out) ⌝ }
     ensures { λ _. ⌜ now (out .exit) ≡ sheetOf table ++ drop (tableSize table) (now (out .entry)) ⌝ }
 {
     let edition = edition_for(table.round, table.share);

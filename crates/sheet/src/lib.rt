@@ -1,8 +1,9 @@
 // Timing sheets in both editions: records and tables, the rules they are judged by, the reader, the writer, and one record's own bytes.
 // Every call answers any bytes, numbers and tables; a refusal gives its number, and zeros or an empty part beside it.
 ghost use mathlib.Core.Path.{_≡_};
-ghost use Rattle.sheet.specs.Rules.{sheetRefusal, tableRefusal};
-ghost use Rattle.sheet.specs.Answers.{readAnswer, unjudgedAnswer, writeAnswer, writeLeaves, placeRefusal, Part, Excerpted};
+ghost use Rattle.sheet.specs.Layout.{noRecord, noTable, isWhole};
+ghost use Rattle.sheet.specs.Rules.{figuresRefusal, sheetRefusal, tableRefusal, wholeRefusal};
+ghost use Rattle.sheet.specs.Answers.{sizeAnswer, judgedAnswer, readAnswer, unjudgedAnswer, wholeAnswer, writeAnswer, writeLeaves, placeRefusal, startAnswer, Part, Excerpted};
 
 mod layout;
 mod rules;
@@ -26,7 +27,19 @@ pub struct Table {
     pub records: [Record; 8],
 }
 
-// What `read` and `read_unjudged` answer: the refusal, or 0 beside the table.
+// What `said_size` answers: the refusal, or 0 beside the bytes that the sheet has by its header.
+pub struct Said {
+    pub refusal: u8,
+    pub size: usize,
+}
+
+// What `judge_table_at` answers: the refusal, or 0; beside a refusal of rules 6 to 10 the place of the record that breaks the rule, else 0.
+pub struct Judged {
+    pub refusal: u8,
+    pub place: usize,
+}
+
+// What `read`, `read_unjudged` and `read_whole` answer: the refusal, or 0 beside the table.
 pub struct Reading {
     pub refusal: u8,
     pub table: Table,
@@ -38,10 +51,58 @@ pub struct Writing {
     pub written: usize,
 }
 
+// What `record_start` answers: the refusal, or 0 beside the byte at which the record's nine start.
+pub struct Start {
+    pub refusal: u8,
+    pub start: usize,
+}
+
 // What `record_of` answers: the refusal, or 0 beside the record's nine bytes within the lent sheet.
 pub struct Excerpt<'a> {
     pub refusal: u8,
     pub part: &'a [u8],
+}
+
+// A record of zeros.
+pub fn no_record() -> Record
+    ensures { λ r. ⌜ r ≡ noRecord ⌝ }
+{
+    Record {
+        cost: 0,
+        backup: 0,
+        deadline: 0,
+        period: 0,
+        priority: 0,
+        fault_priority: 0,
+    }
+}
+
+// A table of zeros.
+pub fn no_table() -> Table
+    ensures { λ r. ⌜ r ≡ noTable ⌝ }
+{
+    Table {
+        count: 0,
+        interval: 0,
+        round: 0,
+        share: 0,
+        records: [no_record(); 8],
+    }
+}
+
+// How long a sheet is by its header, whatever bytes are there after it: the refusal of rules 1 to 3, or the bytes of its edition and count.
+pub fn said_size(sheet: &[u8]) -> Said
+    ensures { λ r. ⌜ r ≡ sizeAnswer (now (sheet .entry)) ⌝ }
+{
+    let refusal = rules::judge_size(sheet);
+    if refusal != 0 {
+        return Said { refusal, size: 0 };
+    }
+    let edition = layout::edition(sheet);
+    Said {
+        refusal: 0,
+        size: layout::size(edition, layout::count(sheet)),
+    }
 }
 
 // The number of the first rule that the sheet breaks, or 0.
@@ -55,14 +116,12 @@ pub fn judge(sheet: &[u8]) -> u8
     rules::judge_parts(sheet, layout::count(sheet))
 }
 
-// The same for a table by value: rules 2, 5, 18 and 6 to 10.
-pub fn judge_table(table: Table) -> u8
-    ensures { λ r. ⌜ r ≡ tableRefusal table ⌝ }
+// Rules 2, 5 and 18 on a table's figures.
+fn judge_figures(table: Table) -> u8
+    ensures { λ r. ⌜ r ≡ figuresRefusal table ⌝ }
 {
-    let count = table.count;
-    let records = table.records;
     let edition = layout::edition_for(table.round, table.share);
-    if rules::outside(count as u16, 8) {
+    if rules::outside(table.count as u16, 8) {
         return 2;
     }
     if table.interval == 0 {
@@ -71,7 +130,44 @@ pub fn judge_table(table: Table) -> u8
     if rules::wrong_share(edition, table.round, table.share) {
         return 18;
     }
-    rules::judge_records(records, count)
+    0
+}
+
+// The number of the first rule that a table by value breaks, of 2, 5, 18 and 6 to 10, or 0; and the place of the record that breaks it.
+pub fn judge_table_at(table: Table) -> Judged
+    ensures { λ r. ⌜ r ≡ judgedAnswer table ⌝ }
+{
+    let records = table.records;
+    let refusal = judge_figures(table);
+    if refusal != 0 {
+        return Judged { refusal, place: 0 };
+    }
+    rules::judge_records(records, table.count)
+}
+
+// The number alone.
+pub fn judge_table(table: Table) -> u8
+    ensures { λ r. ⌜ r ≡ tableRefusal table ⌝ }
+{
+    judge_table_at(table).refusal
+}
+
+// Whether a round and a share are those of the whole processor.
+pub fn is_whole(round: u16, share: u16) -> bool
+    ensures { λ r. ⌜ r ≡ isWhole round share ⌝ }
+{
+    (round == 1) & (share == 1)
+}
+
+// A table's refusal where a whole processor is asked for: its own, then 19 for a shared one.
+pub fn judge_whole(table: Table) -> u8
+    ensures { λ r. ⌜ r ≡ wholeRefusal table ⌝ }
+{
+    let own = judge_table(table);
+    if own != 0 {
+        return own;
+    }
+    rules::judge_shared(table)
 }
 
 // The table that a good sheet holds.
@@ -82,7 +178,7 @@ pub fn read(sheet: &[u8]) -> Reading
     if refusal != 0 {
         return Reading {
             refusal,
-            table: layout::no_table(),
+            table: no_table(),
         };
     }
     Reading {
@@ -99,7 +195,7 @@ pub fn read_unjudged(sheet: &[u8]) -> Reading
     if header != 0 {
         return Reading {
             refusal: header,
-            table: layout::no_table(),
+            table: no_table(),
         };
     }
     Reading {
@@ -108,9 +204,29 @@ pub fn read_unjudged(sheet: &[u8]) -> Reading
     }
 }
 
+// The same as `read` where a whole processor is asked for: the sheet's own refusal, then 19 for a shared one.
+pub fn read_whole(sheet: &[u8]) -> Reading
+    ensures { λ r. ⌜ r ≡ wholeAnswer (now (sheet .entry)) ⌝ }
+{
+    let reading = read(sheet);
+    if reading.refusal != 0 {
+        return reading;
+    }
+    let table = reading.table;
+    let shared = rules::judge_shared(table);
+    if shared != 0 {
+        return Reading {
+            refusal: shared,
+            table: no_table(),
+        };
+    }
+    reading
+}
+
 // Writes a good table's sheet at the start of the output.
 pub fn write(table: Table, out: &mut [u8]) -> Writing
-    ensures { λ r. ⌜ (r ≡ writeAnswer table (now (out .entry))) × (now (out .exit) ≡ writeLeaves table (now (out .entry))) ⌝ }
+    ensures answer { λ r. ⌜ r ≡ writeAnswer table (now (out .entry)) ⌝ }
+    ensures leaves { λ _. ⌜ now (out .exit) ≡ writeLeaves table (now (out .entry)) ⌝ }
 {
     let broken = judge_table(table);
     if broken != 0 {
@@ -149,14 +265,29 @@ pub fn judge_place(sheet: &[u8], place: usize) -> u8
     }
 }
 
+// Where the nine bytes of the record at a place start: the refusal of `judge_place`, or the first byte's place in the sheet.
+pub fn record_start(sheet: &[u8], place: usize) -> Start
+    ensures { λ r. ⌜ r ≡ startAnswer (now (sheet .entry)) place ⌝ }
+{
+    let refusal = judge_place(sheet, place);
+    if refusal != 0 {
+        return Start { refusal, start: 0 };
+    }
+    Start {
+        refusal: 0,
+        start: layout::start(sheet) + 9 * place,
+    }
+}
+
 // The nine bytes of the record at a place, as a part of the lent sheet; where refused, the empty part at its start.
 pub fn record_part(sheet: &[u8], place: usize) -> &[u8]
     ensures { λ r. ⌜ Part (sheet .entry) place r ⌝ }
 {
-    if judge_place(sheet, place) != 0 {
+    let found = record_start(sheet, place);
+    if found.refusal != 0 {
         return &sheet[..0];
     }
-    let start = layout::start(sheet) + 9 * place;
+    let start = found.start;
     let end = start + 9;
     &sheet[start..end]
 }

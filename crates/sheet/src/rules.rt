@@ -1,12 +1,14 @@
-// The rules that sheets and tables are judged by, 1 to 10 and 18, as code: over a sheet's header, over the nine bytes of a record within the sheet, and over a table's records.
+// The rules that sheets and tables are judged by, 1 to 10, 18 and 19, as code: over a sheet's header, over the nine bytes of a record within the sheet, and over a table's records.
 // Which priorities earlier records have is kept as sixteen marks, one for each value of the sheet's four bits.
 ghost use mathlib.Core.Path.{_≡_};
 ghost use mathlib.Core.Bool.{true, false};
 ghost use Prim.Native.Nat.{_≤_};
 ghost use lib.ListN.{length, getD};
 ghost use Rattle.sheet.specs.Layout.{editionOf, sizeOf, recordOf, sheetRecord, recordAt};
-ghost use Rattle.sheet.specs.Rules.{outside, wrongShare, refusalOf, headerRefusal, recordsRefusal};
+ghost use Rattle.sheet.specs.Rules.{outside, wrongShare, refusalOf, sizeRefusal, headerRefusal, recordsRefusal, recordsJudged, sharedRefusal};
+use crate::Judged;
 use crate::Record;
+use crate::Table;
 use crate::layout;
 
 // Whether a number is 0 or above the limit.
@@ -32,9 +34,9 @@ pub fn wrong_share(edition: u8, round: u16, share: u16) -> bool
     round <= share
 }
 
-// Rules 1 to 5, with 1 again after 3, and 18.
-pub fn judge_header(sheet: &[u8]) -> u8
-    ensures { λ r. ⌜ r ≡ headerRefusal (now (sheet .entry)) ⌝ }
+// Rules 1 to 3: what keeps a header from saying how long its sheet is.
+pub fn judge_size(sheet: &[u8]) -> u8
+    ensures { λ r. ⌜ r ≡ sizeRefusal (now (sheet .entry)) ⌝ }
 {
     if sheet.len() < 3 {
         return 1;
@@ -47,10 +49,22 @@ pub fn judge_header(sheet: &[u8]) -> u8
     if 1 < edition {
         return 3;
     }
+    0
+}
+
+// Rules 1 to 5, with 1 again after 3, and 18.
+pub fn judge_header(sheet: &[u8]) -> u8
+    ensures { λ r. ⌜ r ≡ headerRefusal (now (sheet .entry)) ⌝ }
+{
+    let refusal = judge_size(sheet);
+    if refusal != 0 {
+        return refusal;
+    }
+    let edition = layout::edition(sheet);
     if sheet.len() < layout::header_size(edition) {
         return 1;
     }
-    if sheet.len() != layout::size(edition, count) {
+    if sheet.len() != layout::size(edition, layout::count(sheet)) {
         return 4;
     }
     if layout::interval(sheet) == 0 {
@@ -66,8 +80,8 @@ pub fn judge_header(sheet: &[u8]) -> u8
 fn is_marked(marks: [bool; 16], priority: u8) -> bool
     ensures { λ r. ⌜ r ≡ getD marks priority false ⌝ }
 {
-    let level = priority as usize;
-    if level < 16 { marks[level] } else { false }
+    let value = priority as usize;
+    if value < 16 { marks[value] } else { false }
 }
 
 // Rules 6 to 10 on the fields of one record.
@@ -105,7 +119,8 @@ fn judge_record(part: &[u8], count: u8, is_taken: bool) -> u8
 
 // Rules 6 to 10 for each record of a sheet of the right length, in order, part by part.
 pub fn judge_parts(sheet: &[u8], count: u8) -> u8
-    requires { ⌜ (count ≤ 8) × (length (now sheet) ≡ sizeOf (editionOf (now sheet)) count) ⌝ }
+    requires few { ⌜ count ≤ 8 ⌝ }
+    requires sized { ⌜ length (now sheet) ≡ sizeOf (editionOf (now sheet)) count ⌝ }
     ensures { λ r. ⌜ r ≡ recordsRefusal count (sheetRecord (now (sheet .entry))) ⌝ }
 {
     let first = layout::start(sheet);
@@ -120,17 +135,17 @@ pub fn judge_parts(sheet: &[u8], count: u8) -> u8
         if refusal != 0 {
             return refusal;
         }
-        let level = priority as usize;
-        marks[level] = true;
+        let value = priority as usize;
+        marks[value] = true;
         place += 1;
     }
     0
 }
 
-// The same for the records of a table, those past the count ignored.
-pub fn judge_records(records: [Record; 8], count: u8) -> u8
+// The same for the records of a table, those past the count ignored; with the place of the one that breaks a rule.
+pub fn judge_records(records: [Record; 8], count: u8) -> Judged
     requires { ⌜ count ≤ 8 ⌝ }
-    ensures { λ r. ⌜ r ≡ recordsRefusal count (recordAt records) ⌝ }
+    ensures { λ r. ⌜ r ≡ recordsJudged count (recordAt records) ⌝ }
 {
     let mut marks = [false; 16];
     let mut place: usize = 0;
@@ -138,11 +153,25 @@ pub fn judge_records(records: [Record; 8], count: u8) -> u8
         let task = records[place];
         let refusal = judge_fields(task, count, is_marked(marks, task.priority));
         if refusal != 0 {
-            return refusal;
+            return Judged { refusal, place };
         }
-        let level = task.priority as usize;
-        marks[level] = true;
+        let value = task.priority as usize;
+        marks[value] = true;
         place += 1;
     }
-    0
+    Judged {
+        refusal: 0,
+        place: 0,
+    }
+}
+
+// 19 for a shared processor, else 0.
+pub fn judge_shared(table: Table) -> u8
+    ensures { λ r. ⌜ r ≡ sharedRefusal table ⌝ }
+{
+    if crate::is_whole(table.round, table.share) {
+        0
+    } else {
+        19
+    }
 }

@@ -6,8 +6,8 @@ use contract.Lifetimes.{Lfts}
 use Rattle.streams.specs.declared.words.Asked.{Asked}
 use Rattle.streams.proofs.input.is_standard.Reads as standard
 use Rattle.streams.proofs.parts.part.Reads as part
-use Rattle.streams.proofs.standing.first.Reads as first
-use Rattle.streams.proofs.standing.of.Reads as ended
+use Rattle.streams.proofs.endings.first.Reads as first
+use Rattle.streams.proofs.endings.of.Reads as ended
 use Rattle.streams.proofs.words.at.Reads as word
 
 pub is-standard-unique : (κs : Lfts 1) (args : _) (a b : Bool) (s u : _) → standard.Learnt κs args a s → standard.Learnt κs args b u → a ≡ b

@@ -1,7 +1,7 @@
 // The words that the program is given: where those of a command begin, how many there are, and what is said where they are wrong.
 ghost use mathlib.Core.Path.{_≡_};
 ghost use Rattle.streams.specs.Endings.{wordPlace};
-use crate::standing;
+use crate::endings;
 use libc::STDERR_FILENO;
 
 // What the program was asked for beside the command: the place of the first word after it among the arguments, how many words
@@ -42,7 +42,7 @@ pub fn trouble(what: &[u8]) -> u8 {
     io::write_all(STDERR_FILENO, b"desk: ");
     io::write_all(STDERR_FILENO, what);
     io::write_all(STDERR_FILENO, b"; ./desk help says more\n");
-    standing::TROUBLE
+    endings::TROUBLE
 }
 
 // Says that standard input can be read once only.

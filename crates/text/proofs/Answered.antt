@@ -5,9 +5,9 @@ use mathlib.Core.List.{List, _++_}
 use native.Mathlib.Omega.{arith}
 use borrow.Author.Tests.{lt-ltb, le-ltb, ne-eqb}
 use lib.ListN.{length, drop}
+use Rattle.places.proofs.Refusals.{next-of, first-of}
 use Rattle.sheet.specs.declared.Table.{Table}
 use Rattle.sheet.specs.Rules.{tableRefusal}
-use Rattle.sheet.proofs.Turns.{next-of, first-of}
 use Rattle.text.specs.declared.Shown.{Shown}
 use Rattle.text.specs.Shown.{textSize, shownText}
 use Rattle.text.specs.Answers.{showRefusal, showAnswer, showLeaves}

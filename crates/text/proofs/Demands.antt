@@ -9,12 +9,12 @@ use native.Mathlib.Omega.{arith}
 use borrow.Author.Tests.{eq-eqb, ne-eqb}
 use lib.ListN.{length, take, drop}
 use lib.Seq.{take-at}
+use Rattle.places.proofs.Tells.{told, shown, leb-tells, eqb-tells, or-tells, and-tells}
+use Rattle.places.proofs.Refusals.{none-of}
 use Rattle.sheet.specs.declared.Table.{Table}
 use Rattle.sheet.specs.Layout.{recordAt, cleared, tableOf, noTable}
 use Rattle.sheet.specs.Rules.{sheetRefusal, tableRefusal}
 use Rattle.sheet.proofs.Spelled.{Bytes}
-use Rattle.sheet.proofs.Tells.{told, shown, leb-tells, eqb-tells, or-tells, and-tells}
-use Rattle.sheet.proofs.Turns.{none-of}
 use Rattle.sheet.proofs.Cases.{good-sheet, good-table, table-records, outside-within}
 use Rattle.sheet.proofs.Agree.{records-agree, room-at}
 use Rattle.sheet.specs.Answers.{writeAnswer, writeLeaves}

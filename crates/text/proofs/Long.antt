@@ -5,9 +5,9 @@ use mathlib.Core.Bool.{Bool, true, false, cond}
 use mathlib.Core.List.{List, [], _∷_, _++_}
 use native.Mathlib.Omega.{arith}
 use lib.ListN.{length, getD, length-append}
+use Rattle.places.specs.Places.{joinedBelow}
 use Rattle.sheet.specs.declared.Record.{Record}
 use Rattle.sheet.specs.declared.Table.{Table}
-use Rattle.sheet.specs.Places.{joinedBelow}
 use Rattle.sheet.specs.Layout.{isWhole, editionFor, recordAt}
 use Rattle.sheet.proofs.Spelled.{Sized}
 use Rattle.report.specs.Words.{newline}

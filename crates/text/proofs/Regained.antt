@@ -9,11 +9,12 @@ use native.Mathlib.Omega.{arith}
 use borrow.Author.Tests.{ne-eqb, le-leb, lt-leb, le-ltb, lt-ltb, ltb-true}
 use lib.Dec.{ltb, leb}
 use lib.ListN.{length, getD, take, drop, replicate}
+use Rattle.places.specs.Places.{joinedBelow, filledBelow}
+use Rattle.places.specs.Refusals.{orElse}
+use Rattle.places.proofs.Refusals.{next-of}
 use Rattle.sheet.specs.declared.Record.{Record}
 use Rattle.sheet.specs.declared.Table.{Table}
-use Rattle.sheet.specs.Places.{orElse, joinedBelow, filledBelow}
 use Rattle.sheet.specs.Layout.{noRecord, recordAt, room, isWhole, editionFor}
-use Rattle.sheet.proofs.Turns.{next-of}
 use Rattle.sheet.proofs.Editions.{whole-old}
 use Rattle.sheet.proofs.Spelled.{Sized}
 use Rattle.report.specs.Words.{newline}

@@ -6,6 +6,7 @@ use mathlib.Core.List.{List, [], _∷_, _++_}
 use native.Mathlib.Decide.{ℕ-discrete}
 use borrow.Author.Tests.{ne-eqb, eqb-false, not-true}
 use lib.Dec.{eqb}
+use Rattle.places.proofs.Tells.{both-true}
 use Rattle.sheet.specs.declared.Table.{Table}
 use Rattle.text.specs.declared.Kind.the-variants.{Newline, Remark, Hash}
 use Rattle.text.specs.declared.Field.{Field}
@@ -14,7 +15,6 @@ use Rattle.text.specs.declared.Scan.{Scan}
 use Rattle.text.specs.Kinds.{between, inComment, kindOf}
 use Rattle.text.specs.Lines.{noRow, lineRefusal, nextStage, withLine}
 use Rattle.text.specs.Steps.{after, noField, remark, rowOf, refusedAt, onward, lineRead, byteRefusal, refusalColumn, byteRead, step, scanned}
-use Rattle.text.proofs.Told.{both-true}
 use Rattle.text.proofs.Stepped.{step-still, step-refused, step-read, scanned-still}
 
 -- a scan that is not refused, at a place of the text

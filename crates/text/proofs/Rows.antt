@@ -3,9 +3,10 @@ use Prim.Native.Nat.{ℕ}
 use mathlib.Core.Path.{_≡_, refl}
 use mathlib.Core.List.{List, [], _∷_}
 use lib.ListN.{replicate}
+use Rattle.places.specs.Places.{someBelow, joinedBelow}
+use Rattle.places.specs.Refusals.{orElse, firstBelow}
 use Rattle.sheet.specs.declared.Record.{Record}
 use Rattle.sheet.specs.declared.Table.{Table}
-use Rattle.sheet.specs.Places.{orElse, firstBelow, someBelow, joinedBelow}
 use Rattle.sheet.specs.Layout.{noRecord, recordAt, isWhole, editionFor}
 use Rattle.sheet.specs.Rules.{outside, taken, refusalOf, recordRefusal, recordsRefusal, wrongShare, tableRefusal}
 use Rattle.report.specs.Decimal.{decimalWithin, decimal}

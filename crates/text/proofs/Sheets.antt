@@ -6,6 +6,7 @@ use native.Mathlib.Decide.{decLt}
 use native.Mathlib.Omega.{arith}
 use lib.ListN.{length, getD, take, drop, replicate}
 use lib.Seq.{length-take-le}
+use Rattle.places.proofs.Filled.{filled-past}
 use Rattle.sheet.specs.declared.Record.{Record}
 use Rattle.sheet.specs.Layout.{headerWidths, headerSize, recordWidths, bytes, headerOf, countOf, editionOf, intervalOf, roundOf, shareOf, startOf, partOf, recordFrom, recordOf, sheetRecord, noRecord, recordAt, room, tableOf, cleared}
 use Rattle.sheet.specs.Packing.{bitsOf}
@@ -14,7 +15,7 @@ use Rattle.sheet.proofs.Editions.{Edition, old, new, edition-of}
 use Rattle.sheet.proofs.Spelled.{Bytes, bytes-fit, Sized}
 use Rattle.sheet.proofs.Parts.{part-nine}
 use Rattle.sheet.proofs.Cases.{GoodHeader}
-use Rattle.sheet.proofs.Agree.{filled-past, room-agree, room-at}
+use Rattle.sheet.proofs.Agree.{room-agree, room-at}
 use Rattle.sheet.proofs.Return.{Wide, bytes-take, bytes-drop, old-fields}
 
 -- values in a record's widths make a record of these widths

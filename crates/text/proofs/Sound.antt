@@ -7,7 +7,7 @@ use mathlib.Core.List.{List, [], _∷_}
 use native.Mathlib.Decide.{ℕ-discrete}
 use native.Mathlib.Omega.{arith}
 use lib.Dec.{eqb, ltb, leb}
-use Rattle.sheet.specs.Places.{orElse}
+use Rattle.places.specs.Refusals.{orElse}
 use Rattle.text.specs.declared.Kind.{Kind}
 use Rattle.text.specs.declared.Kind.the-variants.{Newline, Remark, Hash, Blank, Digit, Other}
 use Rattle.text.specs.declared.Row.{Row}

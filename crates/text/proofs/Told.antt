@@ -5,8 +5,9 @@ use mathlib.Core.Bool.{Bool, true, false, cond, _&&_, false≢true}
 use native.Mathlib.Omega.{arith}
 use borrow.Author.Tests.{leb-true, ltb-false, ne-eqb}
 use lib.Dec.{eqb, ltb, leb}
-use Rattle.sheet.specs.Places.{orElse}
-use Rattle.sheet.proofs.Turns.{none-of}
+use Rattle.places.specs.Refusals.{orElse}
+use Rattle.places.proofs.Tells.{both-true}
+use Rattle.places.proofs.Refusals.{none-of}
 use Rattle.text.specs.declared.Kind.{Kind}
 use Rattle.text.specs.declared.Kind.the-variants.{Remark, Blank, Digit}
 use Rattle.text.specs.declared.Row.{Row}
@@ -14,11 +15,6 @@ use Rattle.text.specs.declared.Scan.{Scan}
 use Rattle.text.specs.Kinds.{inNumber, inWord, inComment, isBlank, isDigit, kindOf}
 use Rattle.text.specs.Lines.{limit, startRefusal, widthRefusal, digitRefusal}
 use Rattle.text.specs.Steps.{byteRefusal, kindRead, step}
-
--- where two tests hold, each does
-pub both-true : (a b : Bool) → (a && b) ≡ true → (a ≡ true) × (b ≡ true)
-both-true true b e = (refl, e)
-both-true false b e = absurd (false≢true e)
 
 -- a digit is at least the byte of 0
 pub digit-least : (byte : ℕ) → isDigit byte ≡ true → 48 ≤ byte

@@ -4,8 +4,8 @@ use mathlib.Core.Bool.{cond}
 use mathlib.Core.List.{List, _++_}
 use lib.Dec.{eqb, ltb}
 use lib.ListN.{length, drop}
+use Rattle.places.specs.Refusals.{orElse}
 use Rattle.sheet.specs.declared.Table.{Table}
-use Rattle.sheet.specs.Places.{orElse}
 use Rattle.sheet.specs.Layout.{noTable}
 use Rattle.sheet.specs.Rules.{tableRefusal}
 use Rattle.text.specs.declared.Scan.{Scan}

@@ -3,10 +3,10 @@ use Prim.Native.Nat.{ℕ, _+_, _*_, min}
 use mathlib.Core.Bool.{Bool, false, cond, _&&_, _||_}
 use lib.Dec.{eqb, ltb, leb}
 use lib.ListN.{getD, set, replicate}
+use Rattle.places.specs.Refusals.{orElse}
 use Rattle.sheet.specs.declared.Record.{Record}
 use Rattle.sheet.specs.declared.Table.{Table}
 use Rattle.sheet.specs.Layout.{noRecord}
-use Rattle.sheet.specs.Places.{orElse}
 use Rattle.text.specs.declared.Row.{Row}
 use Rattle.text.specs.Kinds.{inNumber, inWord}
 

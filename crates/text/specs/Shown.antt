@@ -3,9 +3,9 @@ use Prim.Native.Nat.{ℕ, zero, suc, _+_, _-_, _*_}
 use mathlib.Core.Bool.{cond}
 use mathlib.Core.List.{List, [], _∷_, _++_}
 use lib.ListN.{length, getD, replicate}
+use Rattle.places.specs.Places.{joinedBelow}
 use Rattle.sheet.specs.declared.Record.{Record}
 use Rattle.sheet.specs.declared.Table.{Table}
-use Rattle.sheet.specs.Places.{joinedBelow}
 use Rattle.sheet.specs.Layout.{isWhole, tableEdition, recordAt}
 use Rattle.report.specs.Words.{newline}
 use Rattle.report.specs.Decimal.{decimal}

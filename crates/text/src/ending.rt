@@ -16,7 +16,7 @@ pub fn not_understood(refusal: u8, line: u64, column: u64) -> Understood
         refusal,
         line,
         column,
-        table: lines::no_table(),
+        table: sheet::no_table(),
     }
 }
 

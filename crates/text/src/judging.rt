@@ -24,7 +24,8 @@ fn most(stage: u8, row: Row) -> u8
 
 // The largest value of the line's next number.
 fn limit(stage: u8, row: Row) -> u16
-    ensures { λ r. ⌜ (r ≡ limit stage row) × (r ≤ 65535) ⌝ }
+    ensures limit { λ r. ⌜ r ≡ limit stage row ⌝ }
+    ensures wide { λ r. ⌜ r ≤ 65535 ⌝ }
 {
     if (stage == 2) & (row.count < 2) {
         15

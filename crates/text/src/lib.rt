@@ -115,7 +115,8 @@ pub fn read(text: &[u8]) -> Understood
 
 // Writes a good table's text at the start of the output.
 pub fn show(table: Table, out: &mut [u8]) -> Shown
-    ensures { λ r. ⌜ (r ≡ showAnswer table (now (out .entry))) × (now (out .exit) ≡ showLeaves table (now (out .entry))) ⌝ }
+    ensures answer { λ r. ⌜ r ≡ showAnswer table (now (out .entry)) ⌝ }
+    ensures leaves { λ _. ⌜ now (out .exit) ≡ showLeaves table (now (out .entry)) ⌝ }
 {
     let broken = sheet::judge_table(table);
     if broken != 0 {

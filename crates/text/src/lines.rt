@@ -1,7 +1,6 @@
 // A line's numbers, and what a line comes to.
 ghost use mathlib.Core.Path.{_≡_};
 ghost use Prim.Native.Nat.{min};
-ghost use Rattle.sheet.specs.Layout.{noRecord, noTable};
 ghost use Rattle.text.specs.Lines.{noRow, withNumber, taskOf, noTasks, withInterval, withShare, withTask, withLine, nextStage};
 ghost use Rattle.text.specs.Steps.{noField, remark};
 use crate::Field;
@@ -42,20 +41,6 @@ pub fn no_row() -> Row
     }
 }
 
-// A record of zeros.
-fn no_record() -> Record
-    ensures { λ r. ⌜ r ≡ noRecord ⌝ }
-{
-    Record {
-        cost: 0,
-        backup: 0,
-        deadline: 0,
-        period: 0,
-        priority: 0,
-        fault_priority: 0,
-    }
-}
-
 // The table before the first line.
 pub fn no_tasks() -> Table
     ensures { λ r. ⌜ r ≡ noTasks ⌝ }
@@ -65,20 +50,7 @@ pub fn no_tasks() -> Table
         interval: 0,
         round: 1,
         share: 1,
-        records: [no_record(); 8],
-    }
-}
-
-// A table of zeros.
-pub fn no_table() -> Table
-    ensures { λ r. ⌜ r ≡ noTable ⌝ }
-{
-    Table {
-        count: 0,
-        interval: 0,
-        round: 0,
-        share: 0,
-        records: [no_record(); 8],
+        records: [sheet::no_record(); 8],
     }
 }
 

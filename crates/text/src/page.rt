@@ -2,7 +2,7 @@
 ghost use mathlib.Core.Path.{_≡_};
 ghost use Prim.Native.Nat.{_+_, _*_, _≤_, _<_};
 ghost use lib.ListN.{length, getD};
-ghost use Rattle.sheet.specs.Places.{joinedBelow};
+ghost use Rattle.places.specs.Places.{joinedBelow};
 ghost use Rattle.sheet.specs.Layout.{editionFor};
 ghost use Rattle.report.specs.Decimal.{decimal};
 ghost use Rattle.text.specs.Shown.{widths, columnAt, padded, rowText, taskNumbers, shareText, taskText, shownText, textSize};
@@ -18,7 +18,7 @@ pub fn size(round: u16, share: u16, count: u8) -> usize
     ensures { λ r. ⌜ r ≡ 73 + 36 * editionFor round share + 51 * count ⌝ }
 {
     let tasks = 73 + 51 * count as usize;
-    if (round == 1) & (share == 1) {
+    if sheet::is_whole(round, share) {
         tasks
     } else {
         tasks + 36
@@ -39,7 +39,8 @@ fn put(out: &mut [u8], at: usize, bytes: &[u8])
 
 // A number at the right end of ten bytes.
 fn cell(number: u16) -> [u8; 10]
-    ensures { λ r. ⌜ (r ≡ padded 10 number) × (length (decimal number) ≤ 5) ⌝ }
+    ensures padded { λ r. ⌜ r ≡ padded 10 number ⌝ }
+    ensures short { λ _. ⌜ length (decimal number) ≤ 5 ⌝ }
 {
     let mut bytes = [b' '; 10];
     bytes[9] = b'0' + (number % 10) as u8;
@@ -55,8 +56,10 @@ fn cell(number: u16) -> [u8; 10]
 
 // Puts a number at the right end of a column, and says where that ends.
 fn put_number(out: &mut [u8], at: usize, number: u16, column: usize) -> usize
-    requires { ⌜ (column < 6) × (at + getD widths column 0 ≤ length (now out)) ⌝ }
-    ensures { λ r. ⌜ (r ≡ at + getD widths column 0) × Put (now (out .entry)) at (padded (getD widths column 0) number) (getD widths column 0) (now (out .exit)) ⌝ }
+    requires column { ⌜ column < 6 ⌝ }
+    requires room { ⌜ at + getD widths column 0 ≤ length (now out) ⌝ }
+    ensures end { λ r. ⌜ r ≡ at + getD widths column 0 ⌝ }
+    ensures put { λ _. ⌜ Put (now (out .entry)) at (padded (getD widths column 0) number) (getD widths column 0) (now (out .exit)) ⌝ }
 {
     let width = WIDTHS[column];
     let bytes = cell(number);
@@ -67,8 +70,10 @@ fn put_number(out: &mut [u8], at: usize, number: u16, column: usize) -> usize
 
 // Puts a line of so many numbers, and says where it ends.
 fn put_row(out: &mut [u8], at: usize, numbers: [u16; 6], count: usize) -> usize
-    requires { ⌜ (count ≤ 6) × (at + 51 ≤ length (now out)) ⌝ }
-    ensures { λ r. ⌜ (r ≡ at + (columnAt count + 1)) × Put (now (out .entry)) at (rowText numbers count) (columnAt count + 1) (now (out .exit)) ⌝ }
+    requires few { ⌜ count ≤ 6 ⌝ }
+    requires room { ⌜ at + 51 ≤ length (now out) ⌝ }
+    ensures end { λ r. ⌜ r ≡ at + (columnAt count + 1) ⌝ }
+    ensures put { λ _. ⌜ Put (now (out .entry)) at (rowText numbers count) (columnAt count + 1) (now (out .exit)) ⌝ }
 {
     let mut end = at;
     let mut place: usize = 0;
@@ -83,9 +88,10 @@ fn put_row(out: &mut [u8], at: usize, numbers: [u16; 6], count: usize) -> usize
 // Puts the lines of round and share, where there are any, and says where they end.
 fn put_share(out: &mut [u8], at: usize, round: u16, share: u16) -> usize
     requires { ⌜ at + 69 ≤ length (now out) ⌝ }
-    ensures { λ r. ⌜ (r ≡ at + 36 * editionFor round share) × Put (now (out .entry)) at (shareText round share) (36 * editionFor round share) (now (out .exit)) ⌝ }
+    ensures end { λ r. ⌜ r ≡ at + 36 * editionFor round share ⌝ }
+    ensures put { λ _. ⌜ Put (now (out .entry)) at (shareText round share) (36 * editionFor round share) (now (out .exit)) ⌝ }
 {
-    if (round == 1) & (share == 1) {
+    if sheet::is_whole(round, share) {
         return at;
     }
     put(out, at, b"#    round  share\n");
@@ -108,7 +114,8 @@ fn task_numbers(task: Record) -> [u16; 6]
 
 // Puts the lines of the tasks.
 fn put_tasks(out: &mut [u8], at: usize, records: [Record; 8], count: u8)
-    requires { ⌜ (count ≤ 8) × (at + 51 * count ≤ length (now out)) ⌝ }
+    requires few { ⌜ count ≤ 8 ⌝ }
+    requires room { ⌜ at + 51 * count ≤ length (now out) ⌝ }
     ensures { λ _. ⌜ Put (now (out .entry)) at (joinedBelow (taskText records) count) (51 * count) (now (out .exit)) ⌝ }
 {
     let mut end = at;
@@ -121,7 +128,9 @@ fn put_tasks(out: &mut [u8], at: usize, records: [Record; 8], count: u8)
 
 // Puts a table's text at the start of an output that is long enough.
 pub fn put_table(out: &mut [u8], table: Table)
-    requires { ⌜ (1 ≤ table .count) × (table .count ≤ 8) × (textSize table ≤ length (now out)) ⌝ }
+    requires some { ⌜ 1 ≤ table .count ⌝ }
+    requires few { ⌜ table .count ≤ 8 ⌝ }
+    requires room { ⌜ textSize table ≤ length (now out) ⌝ }
     ensures { λ _. ⌜ Put (now (out .entry)) 0 (shownText table) (textSize table) (now (out .exit)) ⌝ }
 {
     let records = table.records;

@@ -5,9 +5,9 @@ use assured::Times;
 use console::output;
 use console::passing;
 use console::refusals;
-use intake::sheets;
+use console::taking;
 use sheet::Table;
-use streams::standing;
+use streams::endings;
 use streams::words;
 use streams::words::Asked;
 
@@ -42,14 +42,18 @@ fn print_choices(table: Table) -> bool {
     passing::print_list(table.count, &list, listing.entries)
 }
 
-// Prints the answer to a table.
-fn answer(table: Table, times: Times) -> u8 {
+// Prints the answer to a good sheet.
+fn answer(table: Table, is_explained: bool) -> u8 {
+    let times = assured::assured_times(table);
+    if times.refusal != 0 {
+        return refusals::print(times.refusal, is_explained);
+    }
     if print_times(table.count, times) {
         if print_choices(table) {
-            return standing::of(times.assured);
+            return endings::of(times.assured);
         }
     }
-    standing::failed()
+    endings::failed()
 }
 
 // Assures the sheet that the one word names.
@@ -57,18 +61,10 @@ pub fn run(asked: Asked) -> u8 {
     if asked.count != 1 {
         return words::trouble(b"assured takes one word, SHEET");
     }
-    let given = sheets::read(words::at(asked, 0));
-    if !given.is_read {
-        return standing::TROUBLE;
+    let taken = taking::table(words::at(asked, 0), asked.is_explained);
+    if !taken.is_good {
+        return taken.ending;
     }
-    let reading = sheets::reading(given);
-    if reading.refusal != 0 {
-        return refusals::print_of(given, reading.refusal, asked.is_explained);
-    }
-    let table = reading.table;
-    let times = assured::assured_times(table);
-    if times.refusal != 0 {
-        return refusals::print(times.refusal, asked.is_explained);
-    }
-    answer(table, times)
+    let table = taken.table;
+    answer(table, asked.is_explained)
 }

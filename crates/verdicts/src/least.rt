@@ -2,33 +2,35 @@
 use analysis::Interval;
 use console::output;
 use console::refusals;
-use intake::sheets;
+use console::taking;
 use report::Name;
 use report::Saying;
-use streams::standing;
+use sheet::Table;
+use streams::endings;
 use streams::words;
 use streams::words::Asked;
+
+// Prints the answer to a good sheet.
+fn answer(table: Table, is_explained: bool) -> u8 {
+    match analysis::least_interval(table) {
+        Interval::Refused(refusal) => refusals::print(refusal, is_explained),
+        Interval::Least(interval) => output::line(
+            report::named_line(Name::Least, interval as u64),
+            endings::HOLDS,
+        ),
+        Interval::Nothing => output::line(report::saying_line(Saying::NoInterval), endings::FAILS),
+    }
+}
 
 // Finds the least interval of the sheet that the one word names.
 pub fn run(asked: Asked) -> u8 {
     if asked.count != 1 {
         return words::trouble(b"interval takes one word, SHEET");
     }
-    let given = sheets::read(words::at(asked, 0));
-    if !given.is_read {
-        return standing::TROUBLE;
+    let taken = taking::table(words::at(asked, 0), asked.is_explained);
+    if !taken.is_good {
+        return taken.ending;
     }
-    let reading = sheets::reading(given);
-    if reading.refusal != 0 {
-        return refusals::print_of(given, reading.refusal, asked.is_explained);
-    }
-    let table = reading.table;
-    match analysis::least_interval(table) {
-        Interval::Refused(refusal) => refusals::print(refusal, asked.is_explained),
-        Interval::Least(interval) => output::line(
-            report::named_line(Name::Least, interval as u64),
-            standing::HOLDS,
-        ),
-        Interval::Nothing => output::line(report::saying_line(Saying::NoInterval), standing::FAILS),
-    }
+    let table = taken.table;
+    answer(table, asked.is_explained)
 }

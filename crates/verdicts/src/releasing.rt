@@ -5,11 +5,11 @@ use intake::sheets;
 use intake::sheets::Given;
 use release::Decision;
 use report::Saying;
+use streams::endings;
 use streams::input;
 use streams::numbers;
 use streams::numbers::Parsed;
 use streams::parts;
-use streams::standing;
 use streams::words;
 use streams::words::Asked;
 
@@ -86,20 +86,20 @@ fn answer(in_use: Given, candidate: Given, protected: u8, is_explained: bool) ->
         return refused(in_use, candidate, decision.refusal, is_explained);
     }
     if decision.loads {
-        return output::line(report::saying_line(Saying::LoadCandidate), standing::HOLDS);
+        return output::line(report::saying_line(Saying::LoadCandidate), endings::HOLDS);
     }
-    output::line(report::saying_line(Saying::LoadInUse), standing::FAILS)
+    output::line(report::saying_line(Saying::LoadInUse), endings::FAILS)
 }
 
 // Decides between the sheets that the first two words name.
 fn between(asked: Asked, protected: u8) -> u8 {
     let in_use = sheets::read(words::at(asked, 0));
     if !in_use.is_read {
-        return standing::TROUBLE;
+        return endings::TROUBLE;
     }
     let candidate = sheets::read(words::at(asked, 1));
     if !candidate.is_read {
-        return standing::TROUBLE;
+        return endings::TROUBLE;
     }
     answer(in_use, candidate, protected, asked.is_explained)
 }

@@ -1,8 +1,8 @@
 -- `analysis::assess` meets its contract. Assumes nothing.
 use mathlib.Core.Path.{_∙_}
-use Rattle.analysis.specs.Answers.{ownAssessment}
-use Rattle.analysis.specs.Judged.{ownAssessmentBy}
-use Rattle.analysis.proofs.Judging.{assessed-published}
+use Rattle.analysis.specs.Published.Answers.{ownAssessment}
+use Rattle.analysis.specs.ByRule.{ownAssessmentBy}
+use Rattle.analysis.proofs.Laws.ByRule.{assessed-published}
 use borrow.Author.Needs.{needs}
 use Rattle.analysis.proofs.assess.Statement.{statement}
 use Rattle.analysis.proofs.assess.Tie as tie

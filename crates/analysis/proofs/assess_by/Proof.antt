@@ -1,6 +1,6 @@
 -- `analysis::assess_by` meets its contract. Assumes nothing.
 use mathlib.Core.Path.{ap, _∙_}
-use Rattle.analysis.specs.Judged.{choiceAssessmentBy, ownAssessmentBy}
+use Rattle.analysis.specs.ByRule.{choiceAssessmentBy, ownAssessmentBy}
 use borrow.Author.Needs.{needs}
 use Rattle.analysis.proofs.assess_by.Statement.{statement}
 use Rattle.analysis.proofs.assess_by.Tie as tie

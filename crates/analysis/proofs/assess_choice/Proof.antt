@@ -1,6 +1,6 @@
 -- `analysis::assess_choice` meets its contract. Assumes nothing.
 use mathlib.Core.Path.{_∙_}
-use Rattle.analysis.proofs.Judging.{assessed-published}
+use Rattle.analysis.proofs.Laws.ByRule.{assessed-published}
 use borrow.Author.Needs.{needs}
 use Rattle.analysis.proofs.assess_choice.Statement.{statement}
 use Rattle.analysis.proofs.assess_choice.Tie as tie

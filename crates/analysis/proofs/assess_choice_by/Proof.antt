@@ -1,8 +1,8 @@
 -- `analysis::assess_choice_by` meets its contract. Assumes nothing.
 use mathlib.Core.Path.{sym, _∙_}
 use borrow.Author.Tests.{ne-eqb}
-use Rattle.analysis.specs.Answers.{assessed}
-use Rattle.analysis.specs.Judged.{choiceAssessmentBy}
+use Rattle.analysis.specs.Common.Entries.{assessed}
+use Rattle.analysis.specs.ByRule.{choiceAssessmentBy}
 use borrow.Author.Needs.{needs}
 use Rattle.analysis.proofs.assess_choice_by.Statement.{statement}
 use Rattle.analysis.proofs.assess_choice_by.Tie as tie

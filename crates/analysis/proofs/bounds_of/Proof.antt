@@ -1,8 +1,8 @@
 -- `analysis::bounds_of` meets its contract. Assumes nothing.
 use mathlib.Core.Path.{sym, _∙_}
 use borrow.Author.Tests.{eq-eqb, ne-eqb}
-use Rattle.analysis.specs.Bounds.{boundsOf}
-use Rattle.analysis.proofs.Judging.{rule-good}
+use Rattle.analysis.specs.Bounds.Found.{boundsOf}
+use Rattle.analysis.proofs.Laws.ByRule.{rule-good}
 use borrow.Author.Needs.{needs}
 use Rattle.analysis.proofs.bounds_of.Statement.{statement}
 use Rattle.analysis.proofs.bounds_of.Tie as tie

@@ -1,7 +1,8 @@
 -- `analysis::is_hopeless` meets its contract. Assumes nothing.
 use mathlib.Core.Path.{sym, _∙_}
 use borrow.Author.Tests.{ne-eqb}
-use Rattle.analysis.specs.Bounds.{verdictOf, hopelessAnswer}
+use Rattle.analysis.specs.Common.Entries.{verdictOf}
+use Rattle.analysis.specs.Bounds.Hopeless.{hopelessAnswer}
 use borrow.Author.Needs.{needs}
 use Rattle.analysis.proofs.is_hopeless.Statement.{statement}
 use Rattle.analysis.proofs.is_hopeless.Tie as tie

@@ -1,6 +1,6 @@
 -- `analysis::judge_choice` meets its contract. Assumes nothing.
-use Rattle.analysis.specs.Answers.{choiceRefusal}
-use Rattle.analysis.specs.Judged.{ruleRefusal, judgedRefusal}
+use Rattle.analysis.specs.Published.Answers.{choiceRefusal}
+use Rattle.analysis.specs.ByRule.{ruleRefusal, judgedRefusal}
 use borrow.Author.Needs.{needs}
 use Rattle.analysis.proofs.judge_choice.Statement.{statement}
 use Rattle.analysis.proofs.judge_choice.Tie as tie

@@ -1,9 +1,9 @@
 -- `analysis::judge_choice_by` meets its contract. Assumes nothing.
 use mathlib.Core.Path.{sym, _∙_}
-use Rattle.sheet.proofs.Turns.{first-of, next-of}
+use Rattle.places.proofs.Refusals.{first-of, next-of}
 use Rattle.sheet.proofs.Cases.{good-table}
-use Rattle.analysis.specs.Judged.{judgedRefusal}
-use Rattle.analysis.proofs.Judging.{rule-good}
+use Rattle.analysis.specs.ByRule.{judgedRefusal}
+use Rattle.analysis.proofs.Laws.ByRule.{rule-good}
 use borrow.Author.Needs.{needs}
 use Rattle.analysis.proofs.judge_choice_by.Statement.{statement}
 use Rattle.analysis.proofs.judge_choice_by.Tie as tie

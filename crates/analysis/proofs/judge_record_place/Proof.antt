@@ -1,8 +1,8 @@
 -- `analysis::judge_record_place` meets its contract. Assumes nothing.
 use mathlib.Core.Path.{sym, _∙_}
 use borrow.Author.Tests.{lt-ltb, le-ltb}
-use Rattle.sheet.proofs.Turns.{first-of, next-of}
-use Rattle.analysis.specs.Judged.{placeRefusal}
+use Rattle.places.proofs.Refusals.{first-of, next-of}
+use Rattle.analysis.specs.ByRule.{placeRefusal}
 use borrow.Author.Needs.{needs}
 use Rattle.analysis.proofs.judge_record_place.Statement.{statement}
 use Rattle.analysis.proofs.judge_record_place.Tie as tie

@@ -1,21 +1,31 @@
 -- `analysis::judge_rule` meets its contract. Assumes nothing.
-use mathlib.Core.Path.{sym, _∙_}
-use Rattle.analysis.proofs.Judging.{rule-first, rule-next}
+use mathlib.Core.Path.{sym, ap, _∙_}
+use Rattle.analysis.specs.declared.Rule.{Rule}
+use Rattle.analysis.specs.ByRule.{ruleRefusal}
 use borrow.Author.Needs.{needs}
 use Rattle.analysis.proofs.judge_rule.Statement.{statement}
 use Rattle.analysis.proofs.judge_rule.Tie as tie
 
+enum-told : tie.Need-enum-told
+enum-told c = search needs
+
 judge-table-requires : tie.Need-judge-table-requires
 judge-table-requires c κs = search needs
 
-returns : tie.Need-returns
-returns c = c .before .judge-table .ensures ∙ rule-first _ _ (λ e. c .if1 .taken (c .before .judge-table .ensures ∙ e))
+enum-told-2 : tie.Need-enum-told-2
+enum-told-2 c = search needs
 
-judge-shared-requires : tie.Need-judge-shared-requires
-judge-shared-requires c κs = search needs
+judge-whole-requires : tie.Need-judge-whole-requires
+judge-whole-requires c κs = search needs
+
+returns : tie.Need-returns
+unfolding ruleRefusal
+returns c = c .judge-table .ensures ∙ sym (ap (λ (rule : Rule). ruleRefusal rule (c .before .before .before .args .table)) (c .before .enum-told .given .1))
 
 returns-2 : tie.Need-returns-2
-returns-2 c = c .judge-shared .ensures ∙ rule-next _ _ (sym (c .before .before .judge-table .ensures) ∙ c .before .if1 .left)
+unfolding ruleRefusal
+returns-2 c = c .judge-whole .ensures ∙ sym (ap (λ (rule : Rule). ruleRefusal rule (c .before .before .before .args .table)) (c .before .enum-told2 .given .1))
 
 pub judge-rule-spec : {M : Type 1} → statement M
-judge-rule-spec = tie.close (tie.spec judge-table-requires returns judge-shared-requires returns-2)
+judge-rule-spec =
+    tie.close (tie.spec enum-told judge-table-requires enum-told-2 judge-whole-requires returns returns-2)

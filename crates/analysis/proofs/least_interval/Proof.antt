@@ -1,7 +1,7 @@
 -- `analysis::least_interval` meets its contract. Assumes nothing.
 use mathlib.Core.Path.{sym, _∙_}
 use borrow.Author.Tests.{ne-eqb}
-use Rattle.analysis.specs.Answers.{leastOf, intervalAnswer}
+use Rattle.analysis.specs.Published.Answers.{leastOf, intervalAnswer}
 use borrow.Author.Needs.{needs}
 use Rattle.analysis.proofs.least_interval.Statement.{statement}
 use Rattle.analysis.proofs.least_interval.Tie as tie

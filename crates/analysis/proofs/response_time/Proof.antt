@@ -1,6 +1,6 @@
 -- `analysis::response_time` meets its contract. Assumes nothing.
 use mathlib.Core.Path.{_∙_}
-use Rattle.analysis.proofs.Judging.{timed-published}
+use Rattle.analysis.proofs.Laws.ByRule.{timed-published}
 use borrow.Author.Needs.{needs}
 use Rattle.analysis.proofs.response_time.Statement.{statement}
 use Rattle.analysis.proofs.response_time.Tie as tie

@@ -1,12 +1,12 @@
 -- `analysis::time_by` meets its contract. Assumes nothing.
 use mathlib.Core.Path.{sym, subst, _∙_}
 use borrow.Author.Tests.{ne-eqb}
-use Rattle.sheet.proofs.Turns.{none-of}
+use Rattle.places.proofs.Refusals.{none-of}
 use Rattle.sheet.proofs.Cases.{place-below}
-use Rattle.analysis.specs.Allowed.{Within}
-use Rattle.analysis.specs.Judged.{ruleRefusal, placeRefusal, timedBy}
-use Rattle.analysis.proofs.Choice.{own-allowed}
-use Rattle.analysis.proofs.Judging.{rule-good}
+use Rattle.analysis.specs.Common.Allowed.{Within}
+use Rattle.analysis.specs.ByRule.{ruleRefusal, placeRefusal, timedBy}
+use Rattle.analysis.proofs.Laws.Common.Choice.{own-allowed}
+use Rattle.analysis.proofs.Laws.ByRule.{rule-good}
 use borrow.Author.Needs.{needs}
 use Rattle.analysis.proofs.time_by.Statement.{statement}
 use Rattle.analysis.proofs.time_by.Tie as tie
@@ -39,7 +39,7 @@ entry-at-requires c κs =
     let given = c .before .before .before .before in
     let table = given .args .table in
     let good = none-of (ruleRefusal (given .args .rule) table) _ (sym (c .before .before .before .judge-record-place .ensures) ∙ c .before .before .if1 .left) in
-    (good .0, subst (Within table) (sym (c .before .own-choice .ensures)) (own-allowed table (rule-good _ table (good .0)) .each), c .ordered .ensures, place-below _ _ (good .1))
+    (good .0, (record { within = subst (Within table) (sym (c .before .own-choice .ensures)) (own-allowed table (rule-good _ table (good .0)) .each); order = c .ordered .ensures }, place-below _ _ (good .1)))
 
 returns-2 : tie.Need-returns-2
 unfolding timedBy

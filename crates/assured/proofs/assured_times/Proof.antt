@@ -4,12 +4,12 @@ use mathlib.Core.Path.{_≡_, sym, ap, ap₂, _∙_}
 use mathlib.Core.List.{List}
 use native.Mathlib.Omega.{arith}
 use lib.ListN.{getD, set, replicate}
-use Rattle.sheet.specs.Places.{filledBelow}
-use Rattle.sheet.proofs.Turns.{fill-more}
-use Rattle.analysis.specs.Answers.{noEntry as noWhole}
+use Rattle.places.specs.Places.{filledBelow}
+use Rattle.places.proofs.Turns.{fill-more}
+use Rattle.analysis.specs.Common.Entries.{noEntry as noWhole}
 use Rattle.assured.specs.declared.Entry.{Entry}
 use Rattle.assured.specs.Answers.{noEntry, withoutSlack}
-use Rattle.assured.proofs.Answered.{timesOf, times-low}
+use Rattle.assured.proofs.Answered.{timesOf, times-assured}
 use borrow.Author.Needs.{needs}
 use Rattle.assured.proofs.assured_times.Statement.{statement}
 use Rattle.assured.proofs.assured_times.Tie as tie
@@ -64,7 +64,7 @@ returns c =
     let given = assessed .result in
     let all : at .place ≡ 8 = omega arith in
     let filled = at .inv .1 ∙ ap (λ (n : ℕ). filledBelow (λ k. withoutSlack (getD (given .entries) k noWhole)) n (replicate 8 noEntry)) all in
-    (λ j. record { refusal = given .refusal; entries = filled j; assured = given .passes }) ∙ ap timesOf (assessed .ensures) ∙ times-low _
+    (λ j. record { refusal = given .refusal; entries = filled j; assured = given .passes }) ∙ ap timesOf (assessed .ensures) ∙ times-assured _
 
 pub assured-times-spec : {M : Type 1} → statement M
 assured-times-spec =

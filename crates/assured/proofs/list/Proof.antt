@@ -1,6 +1,6 @@
 -- `assured::list` meets its contract. Assumes nothing.
-use Rattle.analysis.specs.Judged.{holds, shareRefusal, ruleRefusal}
-use Rattle.replay.specs.Rules.{sharedRefusal}
+use Rattle.sheet.specs.Rules.{sharedRefusal}
+use Rattle.analysis.specs.ByRule.{meets, ruleRefusal}
 use Rattle.choices.specs.Answers.{refusalBy, listBy, leavesBy}
 use Rattle.assured.specs.Answers.{assuredOf, assuredRefusal, listRefusal, listAnswer, listLeaves}
 use borrow.Author.Needs.{needs}
@@ -14,7 +14,7 @@ same-length : tie.Need-same-length
 same-length c = search needs
 
 returns : tie.Need-returns
-unfolding listAnswer listLeaves listRefusal assuredOf assuredRefusal sharedRefusal listBy leavesBy refusalBy ruleRefusal shareRefusal holds
+unfolding listAnswer listLeaves listRefusal assuredOf assuredRefusal sharedRefusal listBy leavesBy refusalBy ruleRefusal meets
 returns c = c .before .before .list-by .ensures
 
 pub list-spec : {M : Type 1} → statement M

@@ -1,6 +1,6 @@
 -- `assured::step` meets its contract. Assumes nothing.
-use Rattle.analysis.specs.Judged.{holds, shareRefusal, ruleRefusal}
-use Rattle.replay.specs.Rules.{sharedRefusal}
+use Rattle.sheet.specs.Rules.{sharedRefusal}
+use Rattle.analysis.specs.ByRule.{meets, ruleRefusal}
 use Rattle.choices.specs.Answers.{startRefusal, stepBy}
 use Rattle.assured.specs.Answers.{assuredOf, assuredRefusal, stepRefusal, stepAnswer}
 use borrow.Author.Needs.{needs}
@@ -11,7 +11,7 @@ step-by-requires : tie.Need-step-by-requires
 step-by-requires c κs = search needs
 
 returns : tie.Need-returns
-unfolding stepAnswer stepRefusal assuredOf assuredRefusal sharedRefusal stepBy startRefusal ruleRefusal shareRefusal holds
+unfolding stepAnswer stepRefusal assuredOf assuredRefusal sharedRefusal stepBy startRefusal ruleRefusal meets
 returns c = c .step-by .ensures
 
 pub step-spec : {M : Type 1} → statement M

@@ -1,5 +1,5 @@
 -- `choices::list` meets its contract. Assumes nothing.
-use Rattle.analysis.specs.Judged.{holds, ruleRefusal}
+use Rattle.analysis.specs.ByRule.{meets, ruleRefusal}
 use Rattle.choices.specs.Choices.{passingOf}
 use Rattle.choices.specs.Answers.{listRefusal, listAnswer, listLeaves, refusalBy, listBy, leavesBy}
 use borrow.Author.Needs.{needs}
@@ -13,7 +13,7 @@ same-length : tie.Need-same-length
 same-length c = search needs
 
 returns : tie.Need-returns
-unfolding listAnswer listLeaves listRefusal listBy leavesBy refusalBy ruleRefusal passingOf holds
+unfolding listAnswer listLeaves listRefusal listBy leavesBy refusalBy ruleRefusal passingOf meets
 returns c = c .before .before .list-by .ensures
 
 pub list-spec : {M : Type 1} → statement M

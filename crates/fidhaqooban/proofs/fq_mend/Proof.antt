@@ -27,7 +27,7 @@ returns c =
     let mended = c .before .before .before .before in
     let start = mended .before .before .before .before .before in
     let told = sheet-told (start .args .sheet .now) (start .args .out .now) (start .args .changes .now) (made mended) (c .before .if1 .taken) in
-    (handed (c .answer .result) (c .answer .ok) ∙ c .answer .ensures ∙ told .0, told .1, told .2)
+    (handed (c .answer .result) (c .answer .ok) ∙ c .answer .ensures ∙ told .0, (told .1, told .2))
 
 answer-requires-2 : tie.Need-answer-requires-2
 answer-requires-2 c κs = search needs
@@ -38,7 +38,7 @@ returns-2 c =
     let mended = passed .before .before .before in
     let start = mended .before .before .before .before .before in
     let told = short-told (start .args .sheet .now) (start .args .out .now) (start .args .changes .now) (made mended) (passed .if1 .left) (c .before .if2 .taken) in
-    (handed (c .answer2 .result) (c .answer2 .ok) ∙ c .answer2 .ensures ∙ told .0, told .1, told .2)
+    (handed (c .answer2 .result) (c .answer2 .ok) ∙ c .answer2 .ensures ∙ told .0, (told .1, told .2))
 
 cast-if3 : tie.Need-cast-if3
 cast-if3 c = search needs
@@ -61,7 +61,7 @@ returns-3 c =
     let told =
     list-told (start .args .sheet .now) (start .args .out .now) (start .args .changes .now) (made mended) (passed .if1 .left) (roomy .if2 .left)
     (c .before .if3 .taken) in
-    (handed (c .answer3 .result) (c .answer3 .ok) ∙ c .answer3 .ensures ∙ told .0, told .1, told .2)
+    (handed (c .answer3 .result) (c .answer3 .ok) ∙ c .answer3 .ensures ∙ told .0, (told .1, told .2))
 
 array-share-prefix-longest : tie.Need-array-share-prefix-longest
 array-share-prefix-longest c =
@@ -119,7 +119,7 @@ returns-4 c =
     let told =
     both-told (start .args .sheet .now) (start .args .out .now) (start .args .changes .now) (made mended) (passed .if1 .left) (roomy .if2 .left)
     (checked .if3 .left) _ (wrote .copy .ensures .1) in
-    (handed (c .answer4 .result) (c .answer4 .ok) ∙ c .answer4 .ensures ∙ told .0, told .1, listed .put-changes .ensures ∙ told .2)
+    (handed (c .answer4 .result) (c .answer4 .ok) ∙ c .answer4 .ensures ∙ told .0, (told .1, listed .put-changes .ensures ∙ told .2))
 
 pub fq-mend-spec : {M : Type 1} → statement M
 fq-mend-spec =

@@ -1,10 +1,8 @@
 -- `fidhaqooban::fq_response` meets its contract. Assumes nothing.
-use mathlib.Core.Path.{ap, _∙_}
-use Rattle.sheet.specs.Answers.{placeRefusal}
+use mathlib.Core.Path.{ap₂, _∙_}
 use Rattle.fidhaqooban.specs.Numbers.{answerOf}
-use Rattle.fidhaqooban.specs.Answers.{responseNumber}
 use Rattle.fidhaqooban.proofs.Minus.{handed}
-use Rattle.fidhaqooban.proofs.Answered.{first-refused, response-is}
+use Rattle.fidhaqooban.proofs.Answered.{response-is}
 use borrow.Author.Needs.{needs}
 use Rattle.fidhaqooban.proofs.fq_response.Statement.{statement}
 use Rattle.fidhaqooban.proofs.fq_response.Tie as tie
@@ -12,35 +10,23 @@ use Rattle.fidhaqooban.proofs.fq_response.Tie as tie
 read-requires : tie.Need-read-requires
 read-requires c κs = search needs
 
-answer-requires : tie.Need-answer-requires
-answer-requires c κs = search needs
-
-returns : tie.Need-returns
-unfolding responseNumber placeRefusal
-returns c = handed (c .answer .result) (c .answer .ok) ∙ c .answer .ensures ∙ first-refused _ _ (c .before .before .before .read .ensures) (c .before .if1 .taken) _ _
-
 response-time-requires : tie.Need-response-time-requires
 response-time-requires c κs = search needs
+
+first-requires : tie.Need-first-requires
+first-requires c κs = search needs
 
 time-of-requires : tie.Need-time-of-requires
 time-of-requires c κs = search needs
 
-answer-requires-2 : tie.Need-answer-requires-2
-answer-requires-2 c κs = search needs
+answer-requires : tie.Need-answer-requires
+answer-requires c κs = search needs
 
-returns-2 : tie.Need-returns-2
-returns-2 c =
-    handed (c .answer2 .result) (c .answer2 .ok) ∙ c .answer2 .ensures ∙ ap (answerOf _) (c .before .time-of .ensures .0)
-    ∙ response-is _ _ (c .before .before .before .before .before .before .before .read .ensures) (c .before .before .before .before .before .if1 .left) _ _ (c .before .before .before .response-time .ensures)
+returns : tie.Need-returns
+returns c =
+    let timed = c .before .before .before .before in
+    handed (c .answer .result) (c .answer .ok) ∙ c .answer .ensures ∙ ap₂ answerOf (c .before .before .before .first .ensures) (c .before .time-of .ensures .0)
+    ∙ response-is _ _ (timed .before .read .ensures) _ _ (timed .response-time .ensures)
 
 pub fq-response-spec : {M : Type 1} → statement M
-fq-response-spec =
-    tie.close
-    (tie.spec
-    read-requires
-    answer-requires
-    returns
-    response-time-requires
-    time-of-requires
-    answer-requires-2
-    returns-2)
+fq-response-spec = tie.close (tie.spec read-requires response-time-requires first-requires time-of-requires answer-requires returns)

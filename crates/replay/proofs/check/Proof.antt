@@ -1,5 +1,5 @@
 -- `replay::check` meets its contract. Assumes nothing.
-use Rattle.replay.proofs.Answered.{machine-tied, check-refused, check-gone}
+use Rattle.replay.proofs.OfLogs.Answered.{machine-tied, check-refused, check-gone}
 use borrow.Author.Needs.{needs}
 use Rattle.replay.proofs.check.Statement.{statement}
 use Rattle.replay.proofs.check.Tie as tie

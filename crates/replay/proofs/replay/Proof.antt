@@ -1,5 +1,5 @@
 -- `replay::replay` meets its contract. Assumes nothing.
-use Rattle.replay.proofs.Answered.{replay-refused, replay-gone}
+use Rattle.replay.proofs.OfLogs.Answered.{replay-refused, replay-gone}
 use borrow.Author.Needs.{needs}
 use Rattle.replay.proofs.replay.Statement.{statement}
 use Rattle.replay.proofs.replay.Tie as tie

@@ -1,9 +1,9 @@
 -- `sheet::judge` meets its contract: the header's refusal, then the records'. Assumes nothing.
 use Prim.Native.Nat.{ℕ}
 use mathlib.Core.Path.{_≡_, sym, ap, _∙_}
+use Rattle.places.proofs.Refusals.{first-of, next-of}
 use Rattle.sheet.specs.Layout.{sheetRecord}
 use Rattle.sheet.specs.Rules.{headerRefusal, recordsRefusal, sheetRefusal}
-use Rattle.sheet.proofs.Turns.{first-of, next-of}
 use Rattle.sheet.proofs.Cases.{GoodHeader, good-header}
 use borrow.Author.Needs.{needs}
 use Rattle.sheet.proofs.judge.Statement.{statement}

@@ -1,9 +1,9 @@
 -- `sheet::judge_place` meets its contract. Assumes nothing.
 use mathlib.Core.Path.{_≡_, sym, _∙_}
 use borrow.Author.Tests.{lt-ltb, le-ltb}
+use Rattle.places.proofs.Refusals.{first-of, next-of}
 use Rattle.sheet.specs.Rules.{sheetRefusal}
 use Rattle.sheet.specs.Answers.{placeRefusal}
-use Rattle.sheet.proofs.Turns.{first-of, next-of}
 use Rattle.sheet.proofs.Cases.{good-sheet}
 use borrow.Author.Needs.{needs}
 use Rattle.sheet.proofs.judge_place.Statement.{statement}

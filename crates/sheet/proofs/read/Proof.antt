@@ -27,7 +27,7 @@ returns c =
 table-of-requires : tie.Need-table-of-requires
 table-of-requires c κs =
     let header = good-sheet (c .before .before .before .args .sheet .now) (good c) .0 in
-    (header .count .1, header .edition, header .size)
+    (header .count .1, (header .edition, header .size))
 
 returns-2 : tie.Need-returns-2
 unfolding readAnswer

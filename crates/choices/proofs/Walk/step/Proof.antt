@@ -1,5 +1,5 @@
 -- `choices::Walk::step` meets its contract. Assumes nothing.
-use Rattle.analysis.specs.Judged.{holds, ruleRefusal}
+use Rattle.analysis.specs.ByRule.{meets, ruleRefusal}
 use Rattle.choices.specs.Choices.{passingOf}
 use Rattle.choices.specs.Answers.{walkRefusal, startRefusal, stepAnswer, stepBy}
 use borrow.Author.Needs.{needs}
@@ -10,7 +10,7 @@ step-by-requires : tie.Need-step-by-requires
 step-by-requires c κs = search needs
 
 returns : tie.Need-returns
-unfolding stepAnswer stepBy walkRefusal startRefusal ruleRefusal passingOf holds
+unfolding stepAnswer stepBy walkRefusal startRefusal ruleRefusal passingOf meets
 returns c = c .step-by .ensures
 
 pub step-spec : {M : Type 1} → statement M

@@ -3,8 +3,8 @@ use Prim.Native.Nat.{ℕ}
 use mathlib.Core.Path.{sym, ap, _∙_}
 use mathlib.Core.List.{List}
 use borrow.Author.Tests.{ne-eqb}
-use Rattle.analysis.specs.Judged.{holds}
-use Rattle.analysis.proofs.Judging.{rule-good}
+use Rattle.analysis.specs.ByRule.{meets}
+use Rattle.analysis.proofs.Laws.ByRule.{rule-good}
 use Rattle.choices.proofs.Advancing.{start-good}
 use Rattle.choices.proofs.Listed.{found-there, found-none}
 use Rattle.choices.proofs.LowestTask.{tested-none}
@@ -48,7 +48,7 @@ no-bounds-requires c κs = search needs
 advance-requires : tie.Need-advance-requires
 advance-requires c κs =
     let known = start-good _ _ _ (sym (c .before .before .before .before .judge-start .ensures) ∙ c .before .before .before .if1 .left) in
-    (known .0, known .1, λ some. absurd (some (c .no-bounds .ensures)))
+    (known .0, (known .1, λ some. absurd (some (c .no-bounds .ensures))))
 
 returns-3 : tie.Need-returns-3
 unfolding stepBy stepFrom arriveAt
@@ -56,7 +56,7 @@ returns-3 c =
     let asked = c .before .before .before .before in
     let given = asked .before .before .before .before .before in
     let good = sym (asked .before .before .before .judge-start .ensures) ∙ asked .before .before .if1 .left in
-    let listed = found-there _ (afterOf (given .args .self .entries) (chosen (holds (given .args .rule)) (given .args .table))) _ (c .before .before .advance .ensures) (c .before .if3 .taken) in
+    let listed = found-there _ (afterOf (given .args .self .entries) (chosen (meets (given .args .rule)) (given .args .table))) _ (c .before .before .advance .ensures) (c .before .if3 .taken) in
     simp good (ap (arriveAt (given .args .self)) (sym listed))
 
 returns-4 : tie.Need-returns-4
@@ -65,7 +65,7 @@ returns-4 c =
     let asked = c .before .before .before in
     let given = asked .before .before .before .before .before in
     let good = sym (asked .before .before .before .judge-start .ensures) ∙ asked .before .before .if1 .left in
-    let ended = found-none _ (afterOf (given .args .self .entries) (chosen (holds (given .args .rule)) (given .args .table))) _ (c .before .advance .ensures) (c .if3 .left) in
+    let ended = found-none _ (afterOf (given .args .self .entries) (chosen (meets (given .args .rule)) (given .args .table))) _ (c .before .advance .ensures) (c .if3 .left) in
     simp good (ap (arriveAt (given .args .self)) (sym ended))
 
 pub step-by-spec : {M : Type 1} → statement M

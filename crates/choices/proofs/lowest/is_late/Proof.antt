@@ -1,6 +1,6 @@
 -- `choices::lowest::is_late` meets its contract: the answer of `response_time` for the lowest task says so. Assumes nothing.
 use mathlib.Core.Path.{sym, ap, _∙_}
-use Rattle.analysis.specs.Answers.{saysLate}
+use Rattle.analysis.specs.Common.Entries.{saysLate}
 use Rattle.choices.proofs.LowestTask.{lowest-said}
 use borrow.Author.Needs.{needs}
 use Rattle.choices.proofs.lowest.is_late.Statement.{statement}

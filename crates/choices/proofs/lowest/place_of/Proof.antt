@@ -4,10 +4,10 @@ use mathlib.Core.Path.{_≡_}
 use mathlib.Core.Bool.{false}
 use native.Mathlib.Omega.{arith}
 use borrow.Author.Tests.{ne-eqb}
-use Rattle.sheet.specs.Places.{someBelow}
+use Rattle.places.specs.Places.{someBelow}
+use Rattle.places.proofs.Turns.{none-more}
 use Rattle.sheet.specs.Layout.{recordAt}
 use Rattle.sheet.proofs.Cases.{good-table}
-use Rattle.analysis.proofs.Verdicts.{some-more}
 use Rattle.choices.proofs.LowestTask.{hasOne, lowest-ahead}
 use borrow.Author.Needs.{needs}
 use Rattle.choices.proofs.lowest.place_of.Statement.{statement}
@@ -39,7 +39,7 @@ loop-again : tie.Need-loop-again Inv-loop μ-loop
 unfolding recordAt
 loop-again c =
     let table = c .before .before .before .args .table in
-    let none = some-more (hasOne (table .records)) (c .before .loop .place) (c .before .loop .inv .1) (ne-eqb _ 1 (c .if1 .taken)) in
+    let none = none-more (hasOne (table .records)) (c .before .loop .place) (c .before .loop .inv .1) (ne-eqb _ 1 (c .if1 .taken)) in
     (omega (arith, lowest-ahead table (c .before .before .before .pre) _ none, good-table table (c .before .before .before .pre) .count .1), none)
 
 returns : tie.Need-returns Inv-loop μ-loop

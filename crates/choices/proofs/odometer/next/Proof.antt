@@ -13,10 +13,10 @@ use Rattle.choices.proofs.odometer.next.Statement.{statement}
 use Rattle.choices.proofs.odometer.next.Tie as tie
 
 abbrev Inv-loop : tie.InvT-loop
-Inv-loop levels entries₀ place₀ entries place = Carrying levels entries₀ entries place
+Inv-loop priorities entries₀ place₀ entries place = Carrying priorities entries₀ entries place
 
 abbrev μ-loop : tie.MeasureT-loop
-μ-loop levels entries₀ place₀ entries place = place
+μ-loop priorities entries₀ place₀ entries place = place
 
 -- what is known of the entries, said of the place that is looked at
 behind : (c : tie.In-loop Inv-loop μ-loop) → Carrying (c .before .before .before .before .args .t1) (c .before .before .before .before .args .choice) (c .before .loop .entries) (c .before .loop .place - 1 + 1)
@@ -67,22 +67,22 @@ array-write-entries c =
 returns-2 : tie.Need-returns-2 Inv-loop μ-loop
 returns-2 c =
     let start = c .before .before .before .before in
-    let levels = start .before .args .t1 in
+    let priorities = start .before .args .t1 in
     let choice = start .before .args .choice in
     let zero = sym (start .all-zero .ensures) ∙ c .before .before .before .if1 .left in
     let at = c .before .before .loop in
     let k = at .place - 1 in
     let kept = entry-kept _ _ (search needs) (search needs) _ k (behind (c .before)) in
-    let found = carrying-found _ _ (search needs) (search needs) _ k (behind (c .before)) (subst (λ (n : ℕ). n < getD levels k 0) kept (c .if2 .taken)) in
+    let found = carrying-found _ _ (search needs) (search needs) _ k (behind (c .before)) (subst (λ (n : ℕ). n < getD priorities k 0) kept (c .if2 .taken)) in
     let risen : suc (getD choice k 0) ≡ getD (at .entries) k 0 + 1 = omega (arith, kept) in
-    next-carried levels choice _ true zero (found ∙ ap (λ (q : ℕ). record { rose = true; entries = set (at .entries) k q }) risen)
+    next-carried priorities choice _ true zero (found ∙ ap (λ (q : ℕ). record { rose = true; entries = set (at .entries) k q }) risen)
 
-array-read-first-entry : tie.Need-array-read-first-entry Inv-loop μ-loop
-array-read-first-entry c =
+array-read-first-fault : tie.Need-array-read-first-fault Inv-loop μ-loop
+array-read-first-fault c =
     omega (arith, c .before .before .loop .inv .reached)
 
-first-entry-requires : tie.Need-first-entry-requires Inv-loop μ-loop
-first-entry-requires c κs = search needs
+first-fault-requires : tie.Need-first-fault-requires Inv-loop μ-loop
+first-fault-requires c κs = search needs
 
 array-write-entries-2 : tie.Need-array-write-entries-2 Inv-loop μ-loop
 array-write-entries-2 c =
@@ -96,7 +96,7 @@ loop-again c =
     let given = c .before .before .before .before .before .before in
     let k = c .before .before .before .loop .place - 1 in
     let kept = entry-kept _ _ (search needs) (search needs) _ k (behind (c .before .before)) in
-    subst (λ (q : ℕ). Carrying (given .args .t1) (given .args .choice) (set (c .before .before .before .loop .entries) k q) k) (sym (c .first-entry .ensures))
+    subst (λ (q : ℕ). Carrying (given .args .t1) (given .args .choice) (set (c .before .before .before .loop .entries) k q) k) (sym (c .first-fault .ensures))
     (carrying-more _ _ (search needs) (search needs) _ k (behind (c .before .before)) (subst (λ (n : ℕ). getD (given .args .t1) k 0 ≤ n) kept (c .before .if2 .left)))
 
 returns-3 : tie.Need-returns-3 Inv-loop μ-loop
@@ -125,8 +125,8 @@ next-spec =
     add-entries
     array-write-entries
     returns-2
-    array-read-first-entry
-    first-entry-requires
+    array-read-first-fault
+    first-fault-requires
     array-write-entries-2
     loop-less
     loop-again

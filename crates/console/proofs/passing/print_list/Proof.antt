@@ -21,8 +21,8 @@ loop-holds c = search needs
 choice-requires : tie.Need-choice-requires Inv-loop μ-loop
 choice-requires c κs = search needs
 
-pass-line-requires : tie.Need-pass-line-requires Inv-loop μ-loop
-pass-line-requires c κs = search needs
+choice-line-requires : tie.Need-choice-line-requires Inv-loop μ-loop
+choice-line-requires c κs = search needs
 
 slice-aggregate-keep : tie.Need-slice-aggregate-keep Inv-loop μ-loop
 slice-aggregate-keep c = search needs
@@ -69,7 +69,7 @@ print-list-spec =
     buffer-requires
     loop-holds
     choice-requires
-    pass-line-requires
+    choice-line-requires
     slice-aggregate-keep
     keep-requires
     enum-known-next

@@ -5,12 +5,12 @@ use mathlib.Core.List.{List}
 use native.Mathlib.Omega.{arith}
 use borrow.Author.Needs.{needs}
 use lib.ListN.{set, replicate}
-use Rattle.sheet.specs.Places.{filledBelow}
-use Rattle.sheet.proofs.Turns.{fill-more}
+use Rattle.places.specs.Places.{filledBelow}
+use Rattle.places.proofs.Turns.{fill-more}
 use Rattle.sheet.proofs.Cases.{good-table}
-use Rattle.analysis.specs.Answers.{ownTasks}
+use Rattle.analysis.specs.Common.Entries.{ownTasks}
 use Rattle.cores.specs.FirstFit.{coreOf}
-use Rattle.cores.proofs.Standing.{given, Fitted, fitted-more, lowest-given, placing-none, placing-all}
+use Rattle.cores.proofs.FittedSoFar.{given, Fitted, fitted-more, lowest-given, placing-none, placing-all}
 use Rattle.cores.proofs.fitting.first_fit.Statement.{statement}
 use Rattle.cores.proofs.fitting.first_fit.Tie as tie
 

@@ -4,8 +4,8 @@ use mathlib.Core.Path.{sym, _∙_}
 use native.Mathlib.Omega.{arith}
 use borrow.Author.Needs.{needs}
 use lib.ListN.{getD}
-use Rattle.analysis.specs.Answers.{ownTasks}
-use Rattle.analysis.proofs.Climbing.{Fails, fails-more, first-found, first-none}
+use Rattle.places.proofs.Search.{Fails, fails-more, first-found, first-none}
+use Rattle.analysis.specs.Common.Entries.{ownTasks}
 use Rattle.cores.specs.FirstFit.{stillPass, lowestCore}
 use Rattle.cores.proofs.fitting.lowest.Statement.{statement}
 use Rattle.cores.proofs.fitting.lowest.Tie as tie

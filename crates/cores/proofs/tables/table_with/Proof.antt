@@ -9,7 +9,7 @@ use mir.Val.{boolByte}
 use lib.ListN.{length, getD, set, length-set}
 use Rattle.sheet.specs.declared.Record.{Record}
 use Rattle.sheet.specs.Layout.{recordAt, noRecord}
-use Rattle.cores.specs.Ranks.{rankAmong, ranked, coreTasks, tasksAt}
+use Rattle.cores.specs.Renumbered.{priorityAmong, renumbered, coreTasks, tasksAt}
 use Rattle.cores.specs.FirstFit.{joins}
 use Rattle.cores.proofs.Picking.{Gathered, gather-none, gather-next, oneIf, byte-one, byte-small}
 use Rattle.cores.proofs.tables.table_with.Statement.{statement}
@@ -19,9 +19,9 @@ use Rattle.cores.proofs.tables.table_with.Tie as tie
 abbrev meant : List ℕ → ℕ → ℕ → ℕ → Bool
 meant cores place core = joins (λ k. getD cores k 0) place core
 
--- the record at a place with its rank
+-- the record at a place with its priority on the core
 abbrev value : List Record → List ℕ → ℕ → ℕ → ℕ → Record
-value records cores place core k = ranked (recordAt records k) (rankAmong (recordAt records) (meant cores place core) (suc place) (recordAt records k .priority))
+value records cores place core k = renumbered (recordAt records k) (priorityAmong (recordAt records) (meant cores place core) (suc place) (recordAt records k .priority))
 
 abbrev Inv-loop : tie.InvT-loop
 Inv-loop cores place core table records₀ count₀ other₀ records count other =
@@ -42,11 +42,11 @@ mul-task c = search needs
 element-copy-out-task : tie.Need-element-copy-out-task Inv-loop μ-loop
 element-copy-out-task c = search needs
 
-rank-requires : tie.Need-rank-requires Inv-loop μ-loop
-rank-requires c κs = search needs
+renumber-requires : tie.Need-renumber-requires Inv-loop μ-loop
+renumber-requires c κs = search needs
 
-ranked-requires : tie.Need-ranked-requires Inv-loop μ-loop
-ranked-requires c κs = search needs
+renumbered-requires : tie.Need-renumbered-requires Inv-loop μ-loop
+renumbered-requires c κs = search needs
 
 mul-records : tie.Need-mul-records Inv-loop μ-loop
 mul-records c = search needs
@@ -76,12 +76,12 @@ loop-again c =
     let given = c .before .before .before .before .before .before .before .args in
     let filled = value (given .t1 .records) (given .cores) (given .place) (given .core) in
     let test = meant (given .cores) (given .place) (given .core) in
-    let here : c .before .ranked .result ≡ filled (at .other) = c .before .ranked .ensures ∙ ap (ranked (recordAt (given .t1 .records) (at .other))) (c .before .before .rank .ensures) in
+    let here : c .before .renumbered .result ≡ filled (at .other) = c .before .renumbered .ensures ∙ ap (renumbered (recordAt (given .t1 .records) (at .other))) (c .before .before .renumber .ensures) in
     let one : boolByte (c .joins .result) ≡ oneIf (test (at .other)) = byte-one _ _ (c .joins .ensures) in (
       omega arith,
       length-set (at .records) _ _ ∙ at .inv .1,
       omega (arith, byte-small (c .joins .result), at .inv .2),
-      subst (λ (n : ℕ). Gathered filled noRecord test (set (at .records) (at .count) (c .before .ranked .result)) (at .count + n) (at .other + 1)) (sym one)
+      subst (λ (n : ℕ). Gathered filled noRecord test (set (at .records) (at .count) (c .before .renumbered .result)) (at .count + n) (at .other + 1)) (sym one)
           (subst (λ (r : Record). Gathered filled noRecord test (set (at .records) (at .count) r) (at .count + oneIf (test (at .other))) (at .other + 1)) (sym here)
           (gather-next filled noRecord test (at .records) (at .count) (at .other) (omega (arith, at .inv .1, at .inv .2)) (at .inv .3))),
     )
@@ -114,8 +114,8 @@ table-with-spec =
     loop-holds
     mul-task
     element-copy-out-task
-    rank-requires
-    ranked-requires
+    renumber-requires
+    renumbered-requires
     mul-records
     array-set-from-records
     joins-requires

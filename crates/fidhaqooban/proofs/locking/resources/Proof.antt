@@ -2,9 +2,8 @@
 use Prim.Native.Nat.{_≤_, _-_}
 use mathlib.Core.Path.{_≡_, ap, _∙_}
 use lib.ListN.{replicate}
-use Rattle.sheet.specs.Places.{filledBelow}
-use Rattle.sheet.proofs.Turns.{fill-more}
-use Rattle.locks.proofs.Turns.{last-turn}
+use Rattle.places.specs.Places.{filledBelow}
+use Rattle.places.proofs.Turns.{fill-more, last-turn}
 use Rattle.fidhaqooban.specs.Locking.{givenResource, givenResources}
 use Rattle.fidhaqooban.proofs.Locked.{eight-filled}
 use borrow.Author.Needs.{needs}

@@ -2,10 +2,9 @@
 use Prim.Native.Nat.{_≤_, _-_}
 use mathlib.Core.Path.{_≡_, ap, _∙_}
 use lib.ListN.{replicate}
-use Rattle.sheet.specs.Places.{filledBelow}
-use Rattle.sheet.proofs.Turns.{fill-more}
-use Rattle.locks.proofs.Turns.{last-turn}
 use mathlib.Core.List.{List}
+use Rattle.places.specs.Places.{filledBelow}
+use Rattle.places.proofs.Turns.{fill-more, last-turn}
 use Rattle.locks.specs.declared.Job.{Job}
 use Rattle.fidhaqooban.specs.Locking.{givenJob, givenStarts}
 use Rattle.fidhaqooban.proofs.Locked.{eight-filled}

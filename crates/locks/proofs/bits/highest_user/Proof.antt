@@ -1,9 +1,9 @@
 -- `locks::bits::highest_user` meets its contract: before each turn the highest of the places below is known. Assumes nothing.
 use Prim.Native.Nat.{_-_, _≤_}
 use mathlib.Core.Path.{_≡_, _∙_}
-use Rattle.locks.specs.Counting.{highestBelow}
+use Rattle.places.specs.Places.{highestBelow}
+use Rattle.places.proofs.Turns.{last-turn, highest-turn}
 use Rattle.locks.specs.Bits.{hasBit, highestUser}
-use Rattle.locks.proofs.Turns.{last-turn, highest-turn}
 use borrow.Author.Needs.{needs}
 use Rattle.locks.proofs.bits.highest_user.Statement.{statement}
 use Rattle.locks.proofs.bits.highest_user.Tie as tie

@@ -42,7 +42,7 @@ free-time-requires : tie.Need-free-time-requires
 free-time-requires c κs =
     let given = c .before .before .before .before .before in
     let fine = accepted _ _ _ (given .pre) in
-    (fine .starts, fine .idle, critical c, asked-low _ _ (fine .asked))
+    (fine .starts, (fine .idle, (critical c, asked-low _ _ (fine .asked))))
 
 cast-t10 : tie.Need-cast-t10
 cast-t10 c = search needs

@@ -1,8 +1,8 @@
 -- `locks::deciding::margin` meets its contract. Assumes nothing.
 use native.Mathlib.Omega.{arith}
 use mir.Syntax.{w64}
-use Rattle.sheet.proofs.Difference.{difference-fits, difference}
 use borrow.Author.Needs.{needs}
+use Rattle.places.proofs.Difference.{difference-fits, difference}
 use Rattle.locks.proofs.deciding.margin.Statement.{statement}
 use Rattle.locks.proofs.deciding.margin.Tie as tie
 

@@ -5,10 +5,11 @@ use mathlib.Core.Bool.{cond}
 use mathlib.Core.List.{List}
 use native.Mathlib.Omega.{arith}
 use lib.Dec.{ltb}
-use Rattle.locks.proofs.Turns.{last-turn, sum-turn}
+use Rattle.places.specs.Places.{sumBelow}
+use Rattle.places.proofs.Turns.{last-turn, sum-turn}
 use Rattle.locks.specs.declared.Job.{Job}
 use Rattle.locks.specs.Jobs.{jobAt}
-use Rattle.locks.specs.Distances.{distance, sumBelow, between}
+use Rattle.locks.specs.Distances.{distance, between}
 use borrow.Author.Needs.{needs}
 use Rattle.locks.proofs.distances.between.Statement.{statement}
 use Rattle.locks.proofs.distances.between.Tie as tie

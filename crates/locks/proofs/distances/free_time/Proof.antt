@@ -13,7 +13,7 @@ phase-requires : tie.Need-phase-requires
 phase-requires c κs = good-starts _ (c .before .pre .0) .some
 
 nearest-requires : tie.Need-nearest-requires
-nearest-requires c κs = (good-starts _ (c .before .before .pre .0) .few, search needs, c .phase .ensures .1)
+nearest-requires c κs = (good-starts _ (c .before .before .pre .0) .few, (search needs, c .phase .ensures .1))
 
 between-requires : tie.Need-between-requires
 between-requires c κs = (good-starts _ (c .before .before .before .pre .0) .few, c .before .phase .ensures .1)
@@ -35,13 +35,13 @@ tied c =
 sub-result : tie.Need-sub-result
 sub-result c =
     let given = c .before .before .before .before in
-    omega (arith, tied c, free-tied (given .args .starts) (given .args .time) (good-starts _ (given .pre .0)) (given .pre .1) (given .args .resource) (given .pre .2))
+    omega (arith, tied c, free-tied (given .args .starts) (given .args .time) (good-starts _ (given .pre .0)) (given .pre .1 .0) (given .args .resource) (given .pre .1 .1 .0))
 
 returns : tie.Need-returns
 returns c =
     let given = c .before .before .before .before in
-    let law = free-tied (given .args .starts) (given .args .time) (good-starts _ (given .pre .0)) (given .pre .1) (given .args .resource) (given .pre .2) in
-    let inside = near-inside (given .args .starts) (given .args .time) (good-starts _ (given .pre .0)) (given .pre .1) (given .args .resource) (given .pre .2) in
+    let law = free-tied (given .args .starts) (given .args .time) (good-starts _ (given .pre .0)) (given .pre .1 .0) (given .args .resource) (given .pre .1 .1 .0) in
+    let inside = near-inside (given .args .starts) (given .args .time) (good-starts _ (given .pre .0)) (given .pre .1 .0) (given .args .resource) (given .pre .1 .1 .0) in
     let both = tied c in
     (omega (arith, both .0, both .1), omega (arith, both .0, inside .1))
 

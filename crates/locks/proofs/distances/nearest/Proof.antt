@@ -3,11 +3,12 @@ use Prim.Native.Nat.{ℕ, _-_, _≤_}
 use mathlib.Core.Path.{_≡_, _∙_}
 use mathlib.Core.Bool.{Bool}
 use mathlib.Core.List.{List}
-use Rattle.locks.proofs.Turns.{last-turn, least-turn}
+use Rattle.places.specs.Places.{leastBelow}
+use Rattle.places.proofs.Turns.{last-turn, least-turn}
 use Rattle.locks.specs.declared.Job.{Job}
 use Rattle.locks.specs.Bits.{hasBit}
 use Rattle.locks.specs.Jobs.{jobAt}
-use Rattle.locks.specs.Distances.{distance, leastBelow, nearest}
+use Rattle.locks.specs.Distances.{distance, nearest}
 use borrow.Author.Needs.{needs}
 use Rattle.locks.proofs.distances.nearest.Statement.{statement}
 use Rattle.locks.proofs.distances.nearest.Tie as tie

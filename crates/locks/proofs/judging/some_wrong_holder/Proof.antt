@@ -3,8 +3,8 @@ use Prim.Native.Nat.{ℕ, _-_, _≤_}
 use mathlib.Core.Path.{_≡_}
 use mathlib.Core.Bool.{Bool}
 use mathlib.Core.List.{List}
-use Rattle.sheet.specs.Places.{someBelow}
-use Rattle.locks.proofs.Turns.{last-turn, some-turn}
+use Rattle.places.specs.Places.{someBelow}
+use Rattle.places.proofs.Turns.{last-turn, some-turn}
 use Rattle.locks.specs.declared.Resource.{Resource}
 use Rattle.locks.specs.Ceilings.{resourceAt}
 use Rattle.locks.specs.Rules.{wrongHolder, someWrongHolder}

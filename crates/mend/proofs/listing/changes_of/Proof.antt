@@ -4,9 +4,9 @@ use mathlib.Core.Path.{_≡_, sym, ap, _∙_}
 use mathlib.Core.List.{List, [], _++_, append-nil, append-assoc}
 use native.Mathlib.Omega.{arith}
 use lib.Dec.{lit<}
-use Rattle.sheet.specs.Places.{joinedBelow}
+use Rattle.places.specs.Places.{joinedBelow}
+use Rattle.places.proofs.Turns.{joined-more}
 use Rattle.sheet.specs.Layout.{recordAt}
-use Rattle.sheet.proofs.Turns.{joined-more}
 use Rattle.mend.specs.declared.Field.the-variants.{Length}
 use Rattle.mend.specs.declared.Change.{Change}
 use Rattle.mend.specs.declared.Changes.{Changes}

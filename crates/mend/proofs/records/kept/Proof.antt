@@ -1,73 +1,53 @@
 -- `mend::records::kept` meets its contract. Assumes nothing.
-use mathlib.Core.Path.{sym, _∙_}
+use Prim.Native.Nat.{ℕ}
+use mathlib.Core.Path.{_≡_, sym, ap, _∙_}
+use mathlib.Core.List.{List}
 use native.Mathlib.Omega.{arith}
-use Rattle.mend.proofs.Complete.{kept-short, kept-unknown, kept-cut, kept-whole}
+use Rattle.sheet.specs.declared.Said.{Said}
+use Rattle.sheet.specs.Layout.{saidSize}
+use Rattle.sheet.specs.Rules.{sizeRefusal}
+use Rattle.sheet.specs.Answers.{sizeAnswer}
+use Rattle.mend.proofs.Complete.{kept-unknown, kept-cut, kept-whole}
 use borrow.Author.Needs.{needs}
 use Rattle.mend.proofs.records.kept.Statement.{statement}
 use Rattle.mend.proofs.records.kept.Tie as tie
 
+-- what the header was found to say
+said-refusal : (said : Said) (s : List ℕ) → said ≡ sizeAnswer s → said .refusal ≡ sizeRefusal s
+unfolding sizeAnswer
+said-refusal said s e = ap (λ (r : Said). r .refusal) e
+
+said-size : (said : Said) (s : List ℕ) → said ≡ sizeAnswer s → sizeRefusal s ≡ 0 → said .size ≡ saidSize s
+unfolding sizeAnswer
+said-size said s e good = ap (λ (r : Said). r .size) e ∙ simp good
+
+abbrev sheet : tie.Else1 → List ℕ
+sheet c = c .before .before .before .before .args .sheet .now
+
+good : (c : tie.Else1) → sizeRefusal (sheet c) ≡ 0
+good c = sym (said-refusal _ (sheet c) (c .before .before .said-size .ensures)) ∙ c .if1 .left
+
+size : (c : tie.Else1) → c .before .before .said-size .result .size ≡ saidSize (sheet c)
+size c = said-size _ (sheet c) (c .before .before .said-size .ensures) (good c)
+
+said-size-requires : tie.Need-said-size-requires
+said-size-requires c κs = search needs
+
 returns : tie.Need-returns
-returns c = (kept-short _ (λ k. c .before .shared-slice-known .given k .fits) (c .if1 .taken), search needs)
-
-shared-slice-read-count : tie.Need-shared-slice-read-count
-shared-slice-read-count c = search needs
-
-shared-slice-read-edition : tie.Need-shared-slice-read-edition
-shared-slice-read-edition c = search needs
-
-is-known-requires : tie.Need-is-known-requires
-is-known-requires c κs = search needs
-
-cast-size : tie.Need-cast-size
-cast-size c = search needs
-
-mul-size : tie.Need-mul-size
-mul-size c = search needs
-
-add-size : tie.Need-add-size
-add-size c = search needs
-
-cast-size-2 : tie.Need-cast-size-2
-cast-size-2 c = omega (arith, c .before .before .shared-slice-known3 .given 0)
-
-mul-size-2 : tie.Need-mul-size-2
-mul-size-2 c = omega (arith, c .before .before .shared-slice-known3 .given 0)
-
-add-size-2 : tie.Need-add-size-2
-add-size-2 c = omega (arith, c .before .before .shared-slice-known3 .given 0)
+returns c =
+    let asked = c .before .before in
+    let given = asked .before .before .args .sheet .now in
+    (kept-unknown given (λ e. c .if1 .taken (said-refusal _ given (asked .said-size .ensures) ∙ e)), search needs)
 
 returns-2 : tie.Need-returns-2
 returns-2 c =
-    let asked = c .before .before in
-    let passed = asked .before .before .before in
-    (kept-cut _ (λ k. passed .before .shared-slice-known .given k .fits) (passed .if1 .left) (sym (asked .is-known .ensures) ∙ c .before .if2 .taken) (c .if3 .taken), omega arith)
+    let one = c .before .before in
+    (size one ∙ kept-cut (sheet one) (good one) (omega (arith, size one, c .if2 .taken)), omega arith)
 
 returns-3 : tie.Need-returns-3
 returns-3 c =
-    let asked = c .before .before in
-    let passed = asked .before .before .before in
-    (kept-whole _ (λ k. passed .before .shared-slice-known .given k .fits) (passed .if1 .left) (sym (asked .is-known .ensures) ∙ c .before .if2 .taken) (c .if3 .left), search needs)
-
-returns-4 : tie.Need-returns-4
-returns-4 c =
-    let asked = c .before in
-    let passed = asked .before .before .before in
-    (kept-unknown _ (λ k. passed .before .shared-slice-known .given k .fits) (passed .if1 .left) (sym (asked .is-known .ensures) ∙ c .if2 .left), search needs)
+    let one = c .before .before in
+    (kept-whole (sheet one) (omega (arith, size one, c .if2 .left)), search needs)
 
 pub kept-spec : {M : Type 1} → statement M
-kept-spec =
-    tie.close
-    (tie.spec
-    returns
-    shared-slice-read-count
-    shared-slice-read-edition
-    is-known-requires
-    cast-size
-    mul-size
-    add-size
-    cast-size-2
-    mul-size-2
-    add-size-2
-    returns-2
-    returns-3
-    returns-4)
+kept-spec = tie.close (tie.spec said-size-requires returns returns-2 returns-3)

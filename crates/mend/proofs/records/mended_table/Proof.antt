@@ -4,10 +4,10 @@ use mathlib.Core.Path.{_≡_, refl, sym, ap, ap₂, _∙_}
 use mathlib.Core.List.{List}
 use native.Mathlib.Omega.{arith}
 use lib.ListN.{set}
+use Rattle.places.specs.Places.{filledBelow}
+use Rattle.places.proofs.Turns.{fill-more}
 use Rattle.sheet.specs.declared.Record.{Record}
-use Rattle.sheet.specs.Places.{filledBelow}
 use Rattle.sheet.specs.Layout.{recordAt}
-use Rattle.sheet.proofs.Turns.{fill-more}
 use Rattle.mend.specs.Mended.{mendedRecord}
 use Rattle.mend.specs.Steps.{mendedTable}
 use borrow.Author.Needs.{needs}

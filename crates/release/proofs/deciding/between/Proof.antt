@@ -36,7 +36,7 @@ assess-requires c κs = search needs
 some-grows-requires : tie.Need-some-grows-requires
 some-grows-requires c κs =
     let given = c .before .before .before .before .before .before .before in
-    (given .pre .0, given .pre .1, c .before .before .before .before .if1 .left)
+    (given .pre .0, (given .pre .1, c .before .before .before .before .if1 .left))
 
 returns-3 : tie.Need-returns-3
 unfolding decided isLoaded

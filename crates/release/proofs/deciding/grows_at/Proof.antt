@@ -22,8 +22,8 @@ returns c =
     let old = given .args .old in
     let new = given .args .new in
     c .grows .ensures
-    ∙ ap₂ grows (timed-outcome old (given .args .place) (given .pre .0) (given .pre .2) _ (c .before .before .before .before .response-time .ensures))
-    (timed-outcome new (given .args .place) (given .pre .1) (given .pre .3) _ (c .before .before .response-time2 .ensures))
+    ∙ ap₂ grows (timed-outcome old (given .args .place) (given .pre .0) (given .pre .1 .1 .0) _ (c .before .before .before .before .response-time .ensures))
+    (timed-outcome new (given .args .place) (given .pre .1 .0) (given .pre .1 .1 .1) _ (c .before .before .response-time2 .ensures))
 
 pub grows-at-spec : {M : Type 1} → statement M
 grows-at-spec = tie.close (tie.spec response-time-requires response-time-requires-2 grows-requires returns)

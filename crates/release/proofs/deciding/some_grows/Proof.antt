@@ -3,10 +3,10 @@ use Prim.Native.Nat.{ℕ, _-_, _≤_}
 use mathlib.Core.Path.{_≡_, sym, ap, ap₂, _∙_}
 use mathlib.Core.Bool.{Bool, _&&_, _||_}
 use native.Mathlib.Omega.{arith}
+use Rattle.places.specs.Places.{someBelow}
+use Rattle.places.proofs.Turns.{some-more}
 use Rattle.sheet.specs.declared.Table.{Table}
-use Rattle.sheet.specs.Places.{someBelow}
 use Rattle.sheet.proofs.Cases.{good-table}
-use Rattle.analysis.proofs.Verdicts.{some-next}
 use Rattle.release.specs.Rules.{isProtected, growsAt, someGrows}
 use borrow.Author.Needs.{needs}
 use Rattle.release.proofs.deciding.some_grows.Statement.{statement}
@@ -37,7 +37,7 @@ is-protected-requires c κs =
 grows-at-requires : tie.Need-grows-at-requires Inv-loop μ-loop
 grows-at-requires c κs =
     let given = c .before .before .before .before in
-    (given .pre .0, given .pre .1, omega arith, omega (arith, given .pre .2))
+    (given .pre .0, (given .pre .1 .0, (omega arith, omega (arith, given .pre .1 .1))))
 
 add-place : tie.Need-add-place Inv-loop μ-loop
 add-place c = search needs
@@ -49,7 +49,7 @@ loop-again : tie.Need-loop-again Inv-loop μ-loop
 loop-again c =
     let at = c .before .before .before .loop in
     let given = c .before .before .before .before .before .args in
-    (search needs, ap₂ _||_ (at .inv .1) (ap₂ _&&_ (c .before .is-protected .ensures) (c .grows-at .ensures)) ∙ sym (some-next (worse (given .old) (given .new) (given .protected)) (at .place)))
+    (search needs, ap₂ _||_ (at .inv .1) (ap₂ _&&_ (c .before .is-protected .ensures) (c .grows-at .ensures)) ∙ sym (some-more (worse (given .old) (given .new) (given .protected)) (at .place)))
 
 returns : tie.Need-returns Inv-loop μ-loop
 unfolding someGrows

@@ -4,8 +4,8 @@ use mathlib.Core.Path.{_≡_, sym, ap, ap₂, _∙_}
 use mathlib.Core.Bool.{Bool, _&&_, _||_}
 use native.Mathlib.Omega.{arith}
 use lib.Dec.{leb}
-use Rattle.sheet.specs.Places.{someBelow}
-use Rattle.analysis.proofs.Verdicts.{some-next}
+use Rattle.places.specs.Places.{someBelow}
+use Rattle.places.proofs.Turns.{some-more}
 use Rattle.release.specs.Rules.{isProtected, someOutside}
 use borrow.Author.Needs.{needs}
 use Rattle.release.proofs.deciding.some_outside.Statement.{statement}
@@ -38,7 +38,7 @@ loop-again : tie.Need-loop-again Inv-loop μ-loop
 loop-again c =
     let at = c .before .before .loop in
     let given = c .before .before .before .args in
-    (search needs, ap₂ _||_ (at .inv .1) (ap (λ (b : Bool). leb (given .count) (at .place) && b) (c .is-protected .ensures)) ∙ sym (some-next (outside (given .protected) (given .count)) (at .place)))
+    (search needs, ap₂ _||_ (at .inv .1) (ap (λ (b : Bool). leb (given .count) (at .place) && b) (c .is-protected .ensures)) ∙ sym (some-more (outside (given .protected) (given .count)) (at .place)))
 
 returns : tie.Need-returns Inv-loop μ-loop
 unfolding someOutside

@@ -1,6 +1,6 @@
 -- `replay::Following::checked` meets its contract. Assumes nothing.
-use Rattle.replay.specs.Pieces.{refusalAt}
-use Rattle.replay.proofs.Stepped.{checked-refused, checked-differs, checked-accepted}
+use Rattle.replay.specs.Logs.Pieces.{refusalAt}
+use Rattle.replay.proofs.OfLogs.Stepped.{checked-refused, checked-differs, checked-accepted}
 use borrow.Author.Needs.{needs}
 use Rattle.replay.proofs.Following.checked.Statement.{statement}
 use Rattle.replay.proofs.Following.checked.Tie as tie

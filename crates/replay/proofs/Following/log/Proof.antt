@@ -1,7 +1,7 @@
 -- `replay::Following::log` meets its contract. Assumes nothing.
 use mathlib.Core.Path.{ap, _∙_}
 use mathlib.Core.Bool.{false}
-use Rattle.replay.specs.Pieces.{beforeBytes, beforeLog}
+use Rattle.replay.specs.Logs.Pieces.{beforeBytes, beforeLog}
 use borrow.Author.Needs.{needs}
 use Rattle.replay.proofs.Following.log.Statement.{statement}
 use Rattle.replay.proofs.Following.log.Tie as tie

@@ -1,7 +1,7 @@
 -- `replay::Following::record` meets its contract. Assumes nothing.
 use mathlib.Core.Path.{ap, _∙_}
 use mathlib.Core.Bool.{true}
-use Rattle.replay.specs.Pieces.{beforeBytes, beforeRecord}
+use Rattle.replay.specs.Logs.Pieces.{beforeBytes, beforeRecord}
 use borrow.Author.Needs.{needs}
 use Rattle.replay.proofs.Following.record.Statement.{statement}
 use Rattle.replay.proofs.Following.record.Tie as tie

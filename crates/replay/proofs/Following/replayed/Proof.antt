@@ -1,8 +1,8 @@
 -- `replay::Following::replayed` meets its contract. Assumes nothing.
 use mathlib.Core.Path.{ap, _∙_}
-use Rattle.replay.specs.Machines.{countsOf}
-use Rattle.replay.specs.Pieces.{refusalAt}
-use Rattle.replay.proofs.Stepped.{replayed-refused, replayed-passed}
+use Rattle.replay.specs.Ticks.Machines.{countsOf}
+use Rattle.replay.specs.Logs.Pieces.{refusalAt}
+use Rattle.replay.proofs.OfLogs.Stepped.{replayed-refused, replayed-passed}
 use borrow.Author.Needs.{needs}
 use Rattle.replay.proofs.Following.replayed.Statement.{statement}
 use Rattle.replay.proofs.Following.replayed.Tie as tie

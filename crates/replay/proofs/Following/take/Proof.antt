@@ -3,9 +3,9 @@ use Prim.Native.Nat.{_+_, _-_, _≤_}
 use mathlib.Core.Path.{_≡_, refl, sym, ap, subst, _∙_}
 use lib.ListN.{length, drop}
 use Rattle.replay.specs.declared.Following.{Following}
-use Rattle.replay.specs.Machines.{IsTied}
-use Rattle.replay.specs.Pieces.{AtOnce, followed, takenAnswer}
-use Rattle.replay.proofs.Stepped.{tied-in, bytes-tied, bytes-length, take-on, take-none}
+use Rattle.replay.specs.Ticks.Machines.{IsTied}
+use Rattle.replay.specs.Logs.Pieces.{AtOnce, followed, takenAnswer}
+use Rattle.replay.proofs.OfLogs.Stepped.{tied-in, bytes-tied, bytes-length, take-on, take-none}
 use borrow.Author.Needs.{needs}
 use native.Mathlib.Omega.{arith}
 use Rattle.replay.proofs.Following.take.Statement.{statement}
@@ -19,7 +19,7 @@ abbrev μ-loop : tie.MeasureT-loop
 
 -- the bytes taken next are there
 more : (c : tie.After-next-bytes Inv-loop μ-loop) → c .before .before .loop .at + c .next-bytes .result ≤ length (c .before .before .before .before .before .args .part .now)
-more c = omega (arith, c .before .before .loop .inv .0, c .next-bytes .ensures .1)
+more c = omega (arith, c .before .before .loop .inv .0, c .next-bytes .ensures .1 .0)
 
 tied-requires : tie.Need-tied-requires Inv-loop μ-loop
 tied-requires c κs = search needs
@@ -53,7 +53,7 @@ go-on-requires : tie.Need-go-on-requires Inv-loop μ-loop
 go-on-requires c κs =
     let at = c .before .before .before .loop in
     let next = c .before .next-bytes in
-    (subst (AtOnce (at .following .«is_record») (at .following .holds)) (sym (bytes-length (at .following) (c .before .before .before .before .before .before .args .part .now) (at .at) (next .result) (more (c .before)))) (next .ensures .2), at .inv .2)
+    (subst (AtOnce (at .following .«is_record») (at .following .holds)) (sym (bytes-length (at .following) (c .before .before .before .before .before .before .args .part .now) (at .at) (next .result) (more (c .before)))) (next .ensures .1 .1), at .inv .2)
 
 loop-less : tie.Need-loop-less Inv-loop μ-loop
 loop-less c = omega (arith, more (c .before .before), c .before .before .next-bytes .ensures .0)

@@ -1,7 +1,7 @@
 -- `replay::Machine::counts` meets its contract. Assumes nothing.
 use mathlib.Core.Path.{ap, _∙_}
-use Rattle.replay.specs.Counts.{countsFrom}
-use Rattle.replay.specs.Machines.{countsOf}
+use Rattle.replay.specs.Ticks.Counts.{countsFrom}
+use Rattle.replay.specs.Ticks.Machines.{countsOf}
 use borrow.Author.Needs.{needs}
 use Rattle.replay.proofs.Machine.counts.Statement.{statement}
 use Rattle.replay.proofs.Machine.counts.Tie as tie

@@ -2,11 +2,11 @@
 use mathlib.Core.Path.{sym, ap, subst, _∙_}
 use native.Mathlib.Omega.{arith}
 use Rattle.replay.specs.declared.Machine.{Machine}
-use Rattle.replay.specs.Machines.{IsTied}
-use Rattle.replay.specs.Shown.{logOf}
-use Rattle.replay.specs.Answers.{goOnAnswer}
-use Rattle.replay.proofs.Levels.{tied-tied}
-use Rattle.replay.proofs.Going.{odd-refused, refused-answer, go-on-any}
+use Rattle.replay.specs.Ticks.Machines.{IsTied}
+use Rattle.replay.specs.Logs.Shown.{logOf}
+use Rattle.replay.specs.Logs.Answers.{goOnAnswer}
+use Rattle.replay.proofs.OfTicks.Ready.{tied-tied}
+use Rattle.replay.proofs.OfLogs.Going.{odd-refused, refused-answer, go-on-any}
 use borrow.Author.Needs.{needs}
 use Rattle.replay.proofs.Machine.go_on.Statement.{statement}
 use Rattle.replay.proofs.Machine.go_on.Tie as tie
@@ -23,7 +23,7 @@ tied-requires : tie.Need-tied-requires
 tied-requires c κs = search needs
 
 go-over-requires : tie.Need-go-over-requires
-go-over-requires c κs = (omega arith, omega arith, c .before .if1 .left, subst IsTied (sym (c .tied .ensures)) (tied-tied _))
+go-over-requires c κs = (omega arith, (omega arith, (c .before .if1 .left, subst IsTied (sym (c .tied .ensures)) (tied-tied _))))
 
 returns-2 : tie.Need-returns-2
 unfolding logOf

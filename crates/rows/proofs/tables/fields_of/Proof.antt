@@ -5,8 +5,8 @@ use mathlib.Core.Path.{_≡_, refl, sym, ap, ap₂, _∙_}
 use mathlib.Core.List.{List}
 use native.Mathlib.Omega.{arith}
 use lib.ListN.{set, replicate}
-use Rattle.sheet.specs.Places.{filledBelow}
-use Rattle.sheet.proofs.Turns.{fill-more}
+use Rattle.places.specs.Places.{filledBelow}
+use Rattle.places.proofs.Turns.{fill-more}
 use Rattle.rows.specs.Lists.{figureOf}
 use Rattle.rows.specs.Tables.{fieldsOf}
 use Rattle.rows.proofs.tables.fields_of.Statement.{statement}

@@ -14,11 +14,11 @@ use Rattle.sheet.proofs.layout.new_field.Tie as tie
 is-new : (c : tie.Else1) → editionOf (c .before .before .before .args .sheet .now) ≡ 1
 is-new c =
     let some = c .if1 .left in
-    omega (arith, c .before .edition .ensures, c .before .before .before .pre .1)
+    omega (arith, c .before .edition .ensures, c .before .before .before .pre .1 .0)
 
 long : (c : tie.Else1) → 7 ≤ length (c .before .before .before .args .sheet .now)
 unfolding startOf
-long c = omega (arith, is-new c, c .before .before .before .pre .2)
+long c = omega (arith, is-new c, c .before .before .before .pre .1 .1 .0)
 
 edition-requires : tie.Need-edition-requires
 edition-requires c κs = search needs
@@ -33,12 +33,12 @@ add-field : tie.Need-add-field
 add-field c = search needs
 
 field-requires : tie.Need-field-requires
-field-requires c κs = omega (arith, long c, c .before .before .before .pre .3)
+field-requires c κs = omega (arith, long c, c .before .before .before .pre .1 .1 .1)
 
 returns-2 : tie.Need-returns-2
 returns-2 c =
     let left = c .before in
-    c .field .ensures ∙ sym (new-spelled _ (is-new left) (long left) (λ k. left .before .before .shared-slice-known .given k .fits) _ (left .before .before .before .pre .3))
+    c .field .ensures ∙ sym (new-spelled _ (is-new left) (long left) (λ k. left .before .before .shared-slice-known .given k .fits) _ (left .before .before .before .pre .1 .1 .1))
 
 pub new-field-spec : {M : Type 1} → statement M
 new-field-spec = tie.close (tie.spec edition-requires returns mul-field add-field field-requires returns-2)

@@ -9,7 +9,7 @@ use Rattle.sheet.proofs.layout.put_record.Statement.{statement}
 use Rattle.sheet.proofs.layout.put_record.Tie as tie
 
 sized : (c : tie.Start) → Sized (c .args .task)
-sized c = record { cost = search needs; backup = search needs; deadline = search needs; period = search needs; priority = c .pre .1; fault = c .pre .2 }
+sized c = record { cost = search needs; backup = search needs; deadline = search needs; period = search needs; priority = c .pre .1 .0; fault = c .pre .1 .1 }
 
 -- the place where the function begins
 abbrev start : tie.After-put-field4 → tie.Start
@@ -54,7 +54,7 @@ add-out-2 : tie.Need-add-out-2
 add-out-2 c = search needs
 
 slice-write-out : tie.Need-slice-write-out
-slice-write-out c = omega (arith, length-kept (c .before .before .before .before), start (c .before .before .before .before) .pre)
+slice-write-out c = omega (arith, length-kept (c .before .before .before .before), start (c .before .before .before .before) .pre .0)
 
 same-length : tie.Need-same-length
 same-length c = simp length-set (length-kept (c .before .before .before .before))

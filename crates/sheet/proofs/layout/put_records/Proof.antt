@@ -5,9 +5,9 @@ use native.Mathlib.Omega.{arith}
 use mathlib.Core.List.{List}
 use lib.ListN.{length}
 use lib.Seq.{sets}
-use Rattle.sheet.specs.Places.{joinedBelow}
+use Rattle.places.specs.Places.{joinedBelow}
+use Rattle.places.proofs.Turns.{joined-more}
 use Rattle.sheet.specs.Layout.{recordAt, recordBytes}
-use Rattle.sheet.proofs.Turns.{joined-more}
 use Rattle.sheet.proofs.Cases.{good-at}
 use Rattle.sheet.proofs.Stores.{sets-after, length-records}
 use borrow.Author.Needs.{needs}
@@ -41,8 +41,8 @@ unfolding recordAt
 put-record-requires c κs =
     let turn = c .before .before in
     let given = turn .before .before .before in
-    let good = good-at (given .args .count) (recordAt (given .args .t3)) (given .pre .2) (turn .before .loop .place) (turn .loop-test .taken) in
-    (omega arith, omega arith, omega arith)
+    let good = good-at (given .args .count) (recordAt (given .args .t3)) (given .pre .1 .1) (turn .before .loop .place) (turn .loop-test .taken) in
+    (omega arith, (omega arith, omega arith))
 
 add-place : tie.Need-add-place Inv-loop μ-loop
 add-place c = search needs

@@ -4,7 +4,7 @@ use mathlib.Core.Path.{_≡_, ap, ap₂, _∙_}
 use mathlib.Core.List.{List}
 use native.Mathlib.Omega.{arith}
 use lib.Seq.{sets}
-use Rattle.sheet.specs.Places.{joinedBelow}
+use Rattle.places.specs.Places.{joinedBelow}
 use Rattle.sheet.specs.Layout.{headerSize, tableEdition, tableSize, sizeOf, recordAt, recordBytes}
 use Rattle.sheet.proofs.Cases.{good-table}
 use Rattle.sheet.proofs.Stores.{sheet-stored}
@@ -34,7 +34,7 @@ unfolding tableSize sizeOf
 put-records-requires c κs =
     let given = c .before .before .before .before .before .before .before .before .before in
     let good = good-table (given .args .table) (given .pre .0) in
-    (good .count .1, omega (arith, started c, c .before .before .before .before .put-header .kept .0, given .pre .1), good .records)
+    (good .count .1, (omega (arith, started c, c .before .before .before .before .put-header .kept .0, given .pre .1), good .records))
 
 same-length : tie.Need-same-length
 same-length c =

@@ -4,10 +4,10 @@ use mathlib.Core.Path.{_≡_, sym, ap, ap₂, _∙_}
 use native.Mathlib.Omega.{arith}
 use mathlib.Core.List.{List}
 use lib.ListN.{length, set, replicate}
+use Rattle.places.specs.Places.{filledBelow}
+use Rattle.places.proofs.Turns.{fill-more}
 use Rattle.sheet.specs.declared.Record.{Record}
-use Rattle.sheet.specs.Places.{filledBelow}
 use Rattle.sheet.specs.Layout.{sizeOf, recordOf, sheetRecord, noRecord, room}
-use Rattle.sheet.proofs.Turns.{fill-more}
 use Rattle.sheet.proofs.Parts.{part-at, part-end, part-nine}
 use borrow.Author.Needs.{needs}
 use Rattle.sheet.proofs.layout.records_of.Statement.{statement}

@@ -11,7 +11,7 @@ count-requires c κs = omega arith
 records-of-requires : tie.Need-records-of-requires
 records-of-requires c κs =
     let given = c .before .before .pre in
-    rw (c .count .ensures) (given .0, given .2)
+    rw (c .count .ensures) (given .0, given .1 .1)
 
 interval-requires : tie.Need-interval-requires
 unfolding sizeOf

@@ -7,7 +7,7 @@ use native.Mathlib.Omega.{arith}
 use lib.ListN.{length, getD, set, take, drop}
 use Rattle.sheet.specs.Layout.{sizeOf, partOf, recordOf, sheetRecord}
 use Rattle.sheet.specs.Rules.{refusalOf}
-use Rattle.sheet.proofs.Judging.{Judging, judging-start, judging-more, judging-found, judging-done, level-small}
+use Rattle.sheet.proofs.Judging.{Judging, judging-start, judging-more, judging-found, judging-done, priority-small}
 use Rattle.sheet.proofs.Parts.{part-at, part-end, part-nine}
 use borrow.Author.Needs.{needs}
 use Rattle.sheet.proofs.rules.judge_parts.Statement.{statement}
@@ -39,10 +39,10 @@ inside c = part-end (lent c) _ _ (c .before .before .before .before .pre .1) (c 
 nine : (c : tie.In-loop Inv-loop μ-loop) → length (bytes c) ≡ 9
 nine c = ap length (part-is c) ∙ part-nine (lent c) _ _ (c .before .before .before .before .pre .1) (c .loop-test .taken)
 
--- the level marked is the priority of the record at the place
-level : (c : tie.After-priority-from Inv-loop μ-loop) → sheetRecord (lent (c .before .before)) (c .before .before .before .loop .place) .priority ≡ c .priority-from .result
+-- the value marked is the priority of the record at the place
+marked-value : (c : tie.After-priority-from Inv-loop μ-loop) → sheetRecord (lent (c .before .before)) (c .before .before .before .loop .place) .priority ≡ c .priority-from .result
 unfolding sheetRecord
-level c = sym (c .priority-from .ensures ∙ ap (λ (part : List ℕ). recordOf part .priority) (part-is (c .before .before)))
+marked-value c = sym (c .priority-from .ensures ∙ ap (λ (part : List ℕ). recordOf part .priority) (part-is (c .before .before)))
 
 -- and what was answered is that record's refusal
 judged : (c : tie.After-judge-record Inv-loop μ-loop)
@@ -56,7 +56,7 @@ judged c =
     let count = turn .before .before .before .before .args .count in
     let marks = turn .before .loop .marks in
     c .judge-record .ensures ∙ ap (λ (part : List ℕ). refusalOf count (marked .is-marked .result) (recordOf part)) (part-is turn)
-    ∙ ap (λ (b : Bool). refusalOf count b (sheetRecord (lent turn) (turn .before .loop .place))) (marked .is-marked .ensures ∙ ap (λ (p : ℕ). getD marks p false) (sym (level (marked .before))))
+    ∙ ap (λ (b : Bool). refusalOf count b (sheetRecord (lent turn) (turn .before .loop .place))) (marked .is-marked .ensures ∙ ap (λ (p : ℕ). getD marks p false) (sym (marked-value (marked .before))))
 
 start-requires : tie.Need-start-requires Inv-loop μ-loop
 unfolding sizeOf
@@ -98,16 +98,16 @@ returns c =
     let at = turn .before .loop in
     judged (c .before) ∙ judging-found _ _ (turn .before .before .before .before .pre .0) _ _ (at .inv) (turn .loop-test .taken) (λ e. c .if1 .taken (judged (c .before) ∙ e))
 
-cast-level : tie.Need-cast-level Inv-loop μ-loop
-cast-level c = search needs
+cast-value : tie.Need-cast-value Inv-loop μ-loop
+cast-value c = search needs
 
 array-write-marks : tie.Need-array-write-marks Inv-loop μ-loop
 array-write-marks c =
     let first = c .before .before .before in
     let turn = first .before .before in
     let at = turn .before .loop in
-    subst (λ (k : ℕ). k < 16) (level first)
-    (level-small _ (sheetRecord (lent turn)) (turn .before .before .before .before .pre .0) (at .marks) (at .place) (at .inv) (turn .loop-test .taken) (sym (judged (c .before)) ∙ c .if1 .left))
+    subst (λ (k : ℕ). k < 16) (marked-value first)
+    (priority-small _ (sheetRecord (lent turn)) (turn .before .before .before .before .pre .0) (at .marks) (at .place) (at .inv) (turn .loop-test .taken) (sym (judged (c .before)) ∙ c .if1 .left))
 
 add-place : tie.Need-add-place Inv-loop μ-loop
 add-place c = search needs
@@ -121,7 +121,7 @@ loop-again c =
     let turn = first .before .before in
     let at = turn .before .loop in
     let given = turn .before .before .before .before in
-    subst (λ (k : ℕ). Judging (given .args .count) (sheetRecord (lent turn)) (set (at .marks) k true) (at .place + 1)) (level first)
+    subst (λ (k : ℕ). Judging (given .args .count) (sheetRecord (lent turn)) (set (at .marks) k true) (at .place + 1)) (marked-value first)
     (judging-more _ (sheetRecord (lent turn)) (given .pre .0) (at .marks) (at .place) (at .inv) (turn .loop-test .taken) (sym (judged (c .before)) ∙ c .if1 .left))
 
 returns-2 : tie.Need-returns-2 Inv-loop μ-loop
@@ -145,7 +145,7 @@ judge-parts-spec =
     is-marked-requires
     judge-record-requires
     returns
-    cast-level
+    cast-value
     array-write-marks
     add-place
     loop-less

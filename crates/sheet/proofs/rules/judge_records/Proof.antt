@@ -1,11 +1,11 @@
 -- `sheet::rules::judge_records` meets its contract: the records below the place are good, and their priorities marked. Assumes nothing.
-use Prim.Native.Nat.{_-_}
-use mathlib.Core.Path.{_≡_, sym, ap, _∙_}
+use Prim.Native.Nat.{ℕ, _-_}
+use mathlib.Core.Path.{_≡_, sym, ap, ap₂, _∙_}
 use mathlib.Core.Bool.{Bool, false}
 use lib.ListN.{getD}
 use Rattle.sheet.specs.Layout.{recordAt}
-use Rattle.sheet.specs.Rules.{refusalOf}
-use Rattle.sheet.proofs.Judging.{Judging, judging-start, judging-more, judging-found, judging-done, level-small}
+use Rattle.sheet.specs.Rules.{refusalOf, recordsJudged}
+use Rattle.sheet.proofs.Judging.{Judging, judging-start, judging-more, judging-found, judging-at, judging-done, judging-none, priority-small}
 use borrow.Author.Needs.{needs}
 use Rattle.sheet.proofs.rules.judge_records.Statement.{statement}
 use Rattle.sheet.proofs.rules.judge_records.Tie as tie
@@ -44,13 +44,16 @@ judge-fields-requires : tie.Need-judge-fields-requires Inv-loop μ-loop
 judge-fields-requires c κs = search needs
 
 returns : tie.Need-returns Inv-loop μ-loop
+unfolding recordsJudged
 returns c =
     let turn = c .before .before .before .before in
     let given = turn .before .before in
-    judged (c .before) ∙ judging-found _ _ (given .pre) _ _ (turn .before .loop .inv) (turn .loop-test .taken) (λ e. c .if1 .taken (judged (c .before) ∙ e))
+    ap₂ (λ (refusal place : ℕ). record { refusal = refusal; place = place })
+    (judged (c .before) ∙ judging-found _ _ (given .pre) _ _ (turn .before .loop .inv) (turn .loop-test .taken) (λ e. c .if1 .taken (judged (c .before) ∙ e)))
+    (judging-at _ _ (given .pre) _ _ (turn .before .loop .inv) (turn .loop-test .taken) (λ e. c .if1 .taken (judged (c .before) ∙ e)))
 
-cast-level : tie.Need-cast-level Inv-loop μ-loop
-cast-level c = search needs
+cast-value : tie.Need-cast-value Inv-loop μ-loop
+cast-value c = search needs
 
 array-write-marks : tie.Need-array-write-marks Inv-loop μ-loop
 unfolding recordAt
@@ -58,7 +61,7 @@ array-write-marks c =
     let turn = c .before .before .before .before .before in
     let at = turn .before .loop in
     let given = turn .before .before in
-    level-small _ (recordAt (given .args .t1)) (given .pre) (at .marks) (at .place) (at .inv) (turn .loop-test .taken) (sym (judged (c .before .before)) ∙ c .before .if1 .left)
+    priority-small _ (recordAt (given .args .t1)) (given .pre) (at .marks) (at .place) (at .inv) (turn .loop-test .taken) (sym (judged (c .before .before)) ∙ c .before .if1 .left)
 
 add-place : tie.Need-add-place Inv-loop μ-loop
 add-place c = search needs
@@ -75,7 +78,11 @@ loop-again c =
     judging-more _ (recordAt (given .args .t1)) (given .pre) (at .marks) (at .place) (at .inv) (turn .loop-test .taken) (sym (judged (c .before .before)) ∙ c .before .if1 .left)
 
 returns-2 : tie.Need-returns-2 Inv-loop μ-loop
-returns-2 c = judging-done _ _ (c .before .before .pre) _ _ (c .before .loop .inv) (c .loop-test .left)
+unfolding recordsJudged
+returns-2 c =
+    ap₂ (λ (refusal place : ℕ). record { refusal = refusal; place = place })
+    (judging-done _ _ (c .before .before .pre) _ _ (c .before .loop .inv) (c .loop-test .left))
+    (judging-none _ _ (c .before .before .pre) _ _ (c .before .loop .inv) (c .loop-test .left))
 
 pub judge-records-spec : {M : Type 1} → statement M
 judge-records-spec =
@@ -89,7 +96,7 @@ judge-records-spec =
     is-marked-requires
     judge-fields-requires
     returns
-    cast-level
+    cast-value
     array-write-marks
     add-place
     loop-less

@@ -1,7 +1,7 @@
 -- `text::ending::end_refusal` meets its contract. Assumes nothing.
 use mathlib.Core.Path.{sym, _∙_, ap}
 use borrow.Author.Tests.{eq-eqb, ne-eqb}
-use Rattle.sheet.proofs.Turns.{next-of, first-of}
+use Rattle.places.proofs.Refusals.{next-of, first-of}
 use Rattle.text.specs.Lines.{lineRefusal, nextStage}
 use Rattle.text.specs.Answers.{endRefusal}
 use borrow.Author.Needs.{needs}

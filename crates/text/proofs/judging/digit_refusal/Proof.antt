@@ -1,7 +1,7 @@
 -- `text::judging::digit_refusal` meets its contract. Assumes nothing.
 use mathlib.Core.Path.{sym, _∙_}
 use borrow.Author.Tests.{eq-eqb, ne-eqb}
-use Rattle.sheet.proofs.Turns.{next-of, first-of}
+use Rattle.places.proofs.Refusals.{next-of, first-of}
 use Rattle.text.specs.Lines.{digitRefusal}
 use borrow.Author.Needs.{needs}
 use Rattle.text.proofs.judging.digit_refusal.Statement.{statement}

@@ -2,8 +2,8 @@
 use Prim.Native.Nat.{ℕ, _+_, _-_, _≤_}
 use mathlib.Core.Path.{_≡_, sym, ap, _∙_}
 use native.Mathlib.Omega.{arith}
-use Rattle.sheet.specs.Places.{joinedBelow}
-use Rattle.sheet.proofs.Turns.{joined-more}
+use Rattle.places.specs.Places.{joinedBelow}
+use Rattle.places.proofs.Turns.{joined-more}
 use Rattle.report.specs.Words.{newline}
 use mathlib.Core.List.{_++_}
 use Rattle.text.specs.Shown.{columnAt, cellText, rowText}

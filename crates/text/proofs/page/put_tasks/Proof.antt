@@ -3,9 +3,9 @@ use Prim.Native.Nat.{ℕ, _+_, _-_, _*_, _≤_}
 use mathlib.Core.Path.{_≡_, refl, sym, ap}
 use mathlib.Core.List.{List}
 use native.Mathlib.Omega.{arith}
-use Rattle.sheet.specs.Places.{joinedBelow}
+use Rattle.places.specs.Places.{joinedBelow}
+use Rattle.places.proofs.Turns.{joined-more}
 use Rattle.sheet.specs.Layout.{recordAt}
-use Rattle.sheet.proofs.Turns.{joined-more}
 use Rattle.text.specs.Shown.{columnAt, rowText, taskText}
 use Rattle.text.specs.Putting.{Put}
 use Rattle.text.proofs.Laid.{put-none, put-more, put-as, put-length}

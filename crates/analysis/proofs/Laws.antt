@@ -1,0 +1,6 @@
+-- The laws by families: what both rules share, the published times, the assured times, what is judged by a rule, the bounds.
+pub mod Common
+pub mod Published
+pub mod Assured
+pub mod ByRule
+pub mod Bounds

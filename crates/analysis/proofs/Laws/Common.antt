@@ -1,0 +1,11 @@
+-- What both rules share: rounding up, the search, tests and choices place by place, and the table held in order, over which the code computes.
+pub mod Rounding
+pub mod Climbing
+pub mod Easier
+pub mod Cut
+pub mod Verdicts
+pub mod Choice
+pub mod Supplier
+pub mod Reordered
+pub mod Placing
+pub mod Tied

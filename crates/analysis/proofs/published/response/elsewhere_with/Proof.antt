@@ -1,0 +1,37 @@
+-- `analysis::published::response::elsewhere_with` meets its contract. Assumes nothing.
+use mathlib.Core.Path.{_∙_}
+use native.Mathlib.Omega.{arith}
+use Rattle.sheet.specs.Layout.{recordAt}
+use Rattle.analysis.proofs.Laws.Published.Found.{elsewhere-found}
+use borrow.Author.Needs.{needs}
+use Rattle.analysis.proofs.published.response.elsewhere_with.Statement.{statement}
+use Rattle.analysis.proofs.published.response.elsewhere_with.Tie as tie
+
+mul-task : tie.Need-mul-task
+mul-task c = search needs
+
+element-copy-out-task : tie.Need-element-copy-out-task
+element-copy-out-task c = omega (arith, c .pre .0 .sorted .few)
+
+wide-requires : tie.Need-wide-requires
+wide-requires c κs = search needs
+
+climb-requires : tie.Need-climb-requires
+unfolding recordAt
+climb-requires c κs =
+    let given = c .before .before in
+    let some = given .pre .0 .sorted .cost (given .args .rank) (given .pre .0 .here) in
+    (record { sorted = given .pre .0 .sorted; often = given .pre .0 .often; rank = given .pre .0 .here; until = omega arith; base = omega arith }, (given .pre .1, omega (arith, some, c .wide .ensures .0)))
+
+returns : tie.Need-returns
+unfolding recordAt
+returns c =
+    let given = c .before .before .before in
+    let args = given .args in (
+      c .climb .ensures .0 ∙ elsewhere-found (args .t1) (args .interval) (given .pre .0 .sorted) (args .rank) (given .pre .0 .here) (args .limit) (args .backup) (c .before .wide .ensures .0),
+      c .climb .ensures .1,
+    )
+
+pub elsewhere-with-spec : {M : Type 1} → statement M
+elsewhere-with-spec =
+    tie.close (tie.spec mul-task element-copy-out-task wide-requires climb-requires returns)

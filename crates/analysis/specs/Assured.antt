@@ -1,0 +1,4 @@
+-- The assured times: what is asked of a length, the time with which choices are assured; and Ahead, an inner device.
+pub mod Equation
+pub mod Time
+pub mod Ahead

@@ -1,0 +1,12 @@
+-- `replay::ticks::bits::is_marked` meets its contract. Assumes nothing.
+use mathlib.Core.Path.{refl}
+use Rattle.replay.specs.Ticks.Tick.{isMarked}
+use Rattle.replay.proofs.ticks.bits.is_marked.Statement.{statement}
+use Rattle.replay.proofs.ticks.bits.is_marked.Tie as tie
+
+returns : tie.Need-returns
+unfolding isMarked
+returns c = refl
+
+pub is-marked-spec : {M : Type 1} → statement M
+is-marked-spec = tie.close (tie.spec returns)

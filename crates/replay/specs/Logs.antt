@@ -1,0 +1,8 @@
+-- Logs (request 1) and a supplier's records (request 7) as bytes: the machine over a log, the refusals, what a record must show, what each call answers, the bytes in pieces. `Positions` and `Totals` are what theorems speak of; no public promise cites them.
+pub mod Over
+pub mod Rules
+pub mod Shown
+pub mod Answers
+pub mod Pieces
+pub mod Positions
+pub mod Totals

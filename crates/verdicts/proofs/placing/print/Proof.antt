@@ -1,0 +1,80 @@
+-- `verdicts::placing::print` is safe and ends. The loop's invariant: the buffer keeps its length. The measure is the number of places that are left. Assumes nothing.
+use Prim.Native.Nat.{_-_}
+use mathlib.Core.Path.{_≡_}
+use lib.ListN.{length}
+use borrow.Author.Needs.{needs}
+use Rattle.verdicts.proofs.placing.print.Statement.{statement}
+use Rattle.verdicts.proofs.placing.print.Tie as tie
+
+abbrev Inv-loop : tie.InvT-loop
+Inv-loop cores buffer₀ end₀ place₀ buffer end place = 4096 ≡ length buffer
+
+abbrev μ-loop : tie.MeasureT-loop
+μ-loop cores buffer₀ end₀ place₀ buffer end place = 8 - place
+
+buffer-requires : tie.Need-buffer-requires Inv-loop μ-loop
+buffer-requires c κs = search needs
+
+loop-holds : tie.Need-loop-holds Inv-loop μ-loop
+loop-holds c = search needs
+
+cast-if1 : tie.Need-cast-if1 Inv-loop μ-loop
+cast-if1 c = search needs
+
+array-read-if1 : tie.Need-array-read-if1 Inv-loop μ-loop
+array-read-if1 c = search needs
+
+cast-core-line : tie.Need-cast-core-line Inv-loop μ-loop
+cast-core-line c = search needs
+
+array-read-core-line : tie.Need-array-read-core-line Inv-loop μ-loop
+array-read-core-line c = search needs
+
+core-line-requires : tie.Need-core-line-requires Inv-loop μ-loop
+core-line-requires c κs = search needs
+
+slice-aggregate-put-line : tie.Need-slice-aggregate-put-line Inv-loop μ-loop
+slice-aggregate-put-line c = search needs
+
+put-line-requires : tie.Need-put-line-requires Inv-loop μ-loop
+put-line-requires c κs = search needs
+
+add-place : tie.Need-add-place Inv-loop μ-loop
+add-place c = search needs
+
+loop-less : tie.Need-loop-less Inv-loop μ-loop
+loop-less c = search needs
+
+loop-again : tie.Need-loop-again Inv-loop μ-loop
+loop-again c = search needs
+
+slice-aggregate-write : tie.Need-slice-aggregate-write Inv-loop μ-loop
+slice-aggregate-write c = search needs
+
+write-requires : tie.Need-write-requires Inv-loop μ-loop
+write-requires c κs = search needs
+
+returns : tie.Need-returns Inv-loop μ-loop
+returns c = search needs
+
+pub print-spec : {M : Type 1} → statement M
+print-spec =
+    tie.close
+    (tie.spec
+    Inv-loop
+    μ-loop
+    buffer-requires
+    loop-holds
+    cast-if1
+    array-read-if1
+    cast-core-line
+    array-read-core-line
+    core-line-requires
+    slice-aggregate-put-line
+    put-line-requires
+    add-place
+    loop-less
+    loop-again
+    slice-aggregate-write
+    write-requires
+    returns)
