@@ -1,14 +1,14 @@
 /*
- * Measures the library against the climbing baseline and prints five tables in Markdown. First every
- * measured call is made once on every side, and any difference in answers or bytes ends the program with
- * status 1; then the sides are timed in turn, and the shortest time of each is shown.
+ * Measures the library against C that climbs and C with the library's method, each built by two compilers, and prints five tables in
+ * Markdown. First every measured call is made once on every side, and any difference in answers or bytes ends the program with
+ * status 1; then the sides are timed in turn, and the shortest time of each is shown, of a C side that of the quicker compiler.
  * The one argument is a sentence on how the program was built and is run, which is printed on top.
  */
 #define _POSIX_C_SOURCE 199309L
 
-#include "bounding.h"
-#include "climbing.h"
+#include "fidhaqooban.h"
 #include "sheets.h"
+#include "sides.h"
 
 #include "../tests/format.h"
 
@@ -24,21 +24,8 @@
 /* What fills an output before a call; some of a record's numbers, in the order in which fq_write takes them; the ticks of the log. */
 enum { UNTOUCHED = 0xA5, DEADLINE = 2, PERIOD = 3, PRIORITY = 4, LOG_TICKS = 10000 };
 
-/* The sides: the library, the baseline, C with the library's bounds and halving, and the baseline that asks the lowest task first, which one table has. */
-enum { LIBRARY, CLIMBING, BOUNDING, LOWEST_FIRST, SIDES };
-
-/* The calls of one side. */
-struct side {
-    const char *name;
-    uint8_t (*judge)(const uint8_t *, size_t);
-    int64_t (*rewrite)(const uint8_t *, size_t, uint8_t *, size_t);
-    int64_t (*response)(const uint8_t *, size_t, size_t);
-    int64_t (*verdict)(const uint8_t *, size_t);
-    int64_t (*least_interval)(const uint8_t *, size_t);
-    int64_t (*next)(const uint8_t *, size_t, uint32_t);
-    int64_t (*list)(const uint8_t *, size_t, uint8_t *, size_t);
-    int64_t (*replay)(const uint8_t *, size_t, const uint8_t *, size_t, uint64_t *, size_t);
-};
+/* The columns: the library, and each C side as either compiler built it. */
+enum { LIBRARY, COMPILERS = 2, COLUMNS = 1 + METHODS * COMPILERS };
 
 /* The bytes of a sheet and its number of tasks. */
 struct packed {
@@ -62,7 +49,7 @@ struct row {
     uint8_t place;
     uint16_t deadline;
     const char *reason;
-    double seconds[SIDES];
+    double seconds[COLUMNS];
 };
 
 /* How a row is timed after its check: at least so many repetitions, each so long, and so long in all. */
@@ -72,38 +59,36 @@ struct effort {
     double all;
 };
 
-/* One table: its sides, by which calls they are asked, its rows, and how many of the sides it has, the first ones. */
+/* One table: by which rule its sides are asked, and its rows. */
 struct table {
     const char *title;
-    const struct side *side;
+    int rule;
     struct row *rows;
     size_t count;
-    int sides;
     struct effort effort;
 };
 
-/* By the response times. */
-static const struct side sides[SIDES] = {
-    {"library", fq_judge, fq_rewrite, fq_response, fq_verdict, fq_least_interval, fq_next, fq_list, fq_replay},
-    {"climbing C", climbing_judge, climbing_rewrite, climbing_response, climbing_verdict, climbing_least_interval,
-     climbing_next, climbing_list, climbing_replay},
-    {"C with bounds", climbing_judge, climbing_rewrite, climbing_response, climbing_verdict, bounding_least_interval,
-     bounding_next, bounding_list, climbing_replay},
-    {"climbing C, lowest first", climbing_judge, climbing_rewrite, climbing_response, climbing_verdict,
-     climbing_least_interval, lowest_first_next, lowest_first_list, climbing_replay},
+/* The library's calls by each rule. */
+static const struct side library_sides[RULES] = {
+    {fq_judge, fq_rewrite, fq_response, fq_verdict, fq_least_interval, fq_next, fq_list, fq_replay},
+    {fq_judge, fq_rewrite, fq_assured_response, fq_verdict, fq_least_interval, fq_assured_next, fq_assured_list, fq_replay},
 };
 
-/* The first three with the assured times and choices in the place of the response times and the passing choices. */
-static const struct side assured_sides[LOWEST_FIRST] = {
-    {"library", fq_judge, fq_rewrite, fq_assured_response, fq_verdict, fq_least_interval, fq_assured_next, fq_assured_list, fq_replay},
-    {"climbing C", climbing_judge, climbing_rewrite, climbing_assured_response, climbing_verdict, climbing_least_interval,
-     climbing_assured_next, climbing_assured_list, climbing_replay},
-    {"C with bounds", climbing_judge, climbing_rewrite, climbing_assured_response, climbing_verdict, bounding_least_interval,
-     bounding_assured_next, bounding_assured_list, climbing_replay},
-};
+/* What the columns of the C sides are headed. */
+static const char *const method_names[METHODS] = {"climbing C", "C, same method"};
+
+/* The side of a column of a table. */
+static const struct side *side_of(int rule, int column)
+{
+    if (column == LIBRARY) {
+        return &library_sides[rule];
+    }
+    int method = (column - 1) / COMPILERS;
+    return (column - 1) % COMPILERS == 0 ? &gcc_sides[rule][method] : &clang_sides[rule][method];
+}
 
 /* What each side writes, and the log that is replayed. */
-static uint8_t outputs[SIDES][FQ_LIST_BYTES];
+static uint8_t outputs[COLUMNS][FQ_LIST_BYTES];
 static uint8_t busy_log[LOG_TICK_BYTES * LOG_TICKS];
 
 /* Judges a sheet. */
@@ -306,18 +291,17 @@ static struct row refused_rows[] = {{.name = "refused calls", .use = use_refused
 
 /* The refused calls by both rules. */
 static const struct table refused_calls[] = {
-    {"Refused calls", sides, refused_rows, LENGTH(refused_rows), SIDES, USUAL},
-    {"Refused calls for assured choices", assured_sides, refused_rows, LENGTH(refused_rows), LOWEST_FIRST, USUAL},
+    {"Refused calls", BY_RESPONSE, refused_rows, LENGTH(refused_rows), USUAL},
+    {"Refused calls for assured choices", BY_ASSURED_TIME, refused_rows, LENGTH(refused_rows), USUAL},
 };
 
 /* The tables that are printed. */
 static const struct table tables[] = {
-    {"The calls", sides, main_rows, LENGTH(main_rows), LOWEST_FIRST, USUAL},
-    {"Growth with the number of tasks n", sides, growth_rows, LENGTH(growth_rows), LOWEST_FIRST, USUAL},
-    {"The lowest task of 8 is late", sides, lowest_rows, LENGTH(lowest_rows), SIDES, USUAL},
-    {"Slow sheets (judging and rewriting are slowest on any good sheet of 8)", sides, slow_rows, LENGTH(slow_rows),
-     LOWEST_FIRST, SLOW},
-    {"Assured times and choices", assured_sides, assured_rows, LENGTH(assured_rows), LOWEST_FIRST, USUAL},
+    {"The calls", BY_RESPONSE, main_rows, LENGTH(main_rows), USUAL},
+    {"Growth with the number of tasks n", BY_RESPONSE, growth_rows, LENGTH(growth_rows), USUAL},
+    {"The lowest task of 8 is late", BY_RESPONSE, lowest_rows, LENGTH(lowest_rows), USUAL},
+    {"Slow sheets (judging and rewriting are slowest on any good sheet of 8)", BY_RESPONSE, slow_rows, LENGTH(slow_rows), SLOW},
+    {"Assured times and choices", BY_ASSURED_TIME, assured_rows, LENGTH(assured_rows), USUAL},
 };
 
 /* The present time in seconds. */
@@ -351,11 +335,11 @@ static void check_table(const struct table *table)
 {
     for (struct row *row = table->rows; row < table->rows + table->count; row++) {
         struct packed sheet = pack(row);
-        int64_t answers[SIDES];
-        for (int side = 0; side < table->sides; side++) {
+        int64_t answers[COLUMNS];
+        for (int side = 0; side < COLUMNS; side++) {
             memset(outputs[side], UNTOUCHED, FQ_LIST_BYTES);
             double start = now();
-            answers[side] = row->use(&table->side[side], &sheet, outputs[side]);
+            answers[side] = row->use(side_of(table->rule, side), &sheet, outputs[side]);
             row->seconds[side] = now() - start;
             if (answers[side] != answers[LIBRARY] || memcmp(outputs[side], outputs[LIBRARY], FQ_LIST_BYTES) != 0) {
                 fprintf(stderr, "the sides differ on \"%s\"\n", row->name);
@@ -377,15 +361,14 @@ static void check(const struct table *some, size_t count)
 static void measure(const struct table *table, struct row *row)
 {
     const struct effort *effort = &table->effort;
-    int count = table->sides;
     struct packed sheet = pack(row);
     double end = now() + effort->all;
-    for (int turn = 0; turn < count * effort->repetitions || turn % count != 0 || now() < end; turn++) {
-        int side = turn % count;
+    for (int turn = 0; turn < COLUMNS * effort->repetitions || turn % COLUMNS != 0 || now() < end; turn++) {
+        int side = turn % COLUMNS;
         long calls = 1 + (long)(effort->each / (row->seconds[side] + 1e-9));
         double start = now();
         for (long call = 0; call < calls; call++) {
-            row->use(&table->side[side], &sheet, outputs[side]);
+            row->use(side_of(table->rule, side), &sheet, outputs[side]);
         }
         double seconds = (now() - start) / (double)calls;
         if (seconds < row->seconds[side]) {
@@ -408,19 +391,22 @@ static void print_time(double seconds)
     }
 }
 
-/* Prints the head of a table: the library's time, and beside it that of each other side with the ratio to it. */
+/* The shorter time of a C side, of those that the two compilers' have. */
+static double quickest(const struct row *row, int method)
+{
+    const double *built = row->seconds + 1 + COMPILERS * method;
+    return built[0] < built[1] ? built[0] : built[1];
+}
+
+/* Prints the head of a table: the library's time, and beside it that of each C side with the ratio to it. */
 static void print_head(const struct table *table)
 {
     bool has_reasons = table->rows->reason != NULL;
-    printf("\n## %s\n\n| Call | %s |", table->title, table->side[LIBRARY].name);
-    for (int side = CLIMBING; side < table->sides; side++) {
-        printf(" %s | ratio |", table->side[side].name);
+    printf("\n## %s\n\n| Call | library |", table->title);
+    for (int method = 0; method < METHODS; method++) {
+        printf(" %s | ratio |", method_names[method]);
     }
-    printf("%s\n|---|---:|", has_reasons ? " why it is slow |" : "");
-    for (int side = CLIMBING; side < table->sides; side++) {
-        printf("---:|---:|");
-    }
-    printf("%s\n", has_reasons ? "---|" : "");
+    printf("%s\n|---|---:|---:|---:|---:|---:|%s\n", has_reasons ? " why it is slow |" : "", has_reasons ? "---|" : "");
 }
 
 /* Measures and prints one table. */
@@ -431,9 +417,10 @@ static void print_table(const struct table *table)
         measure(table, row);
         printf("| %s |", row->name);
         print_time(row->seconds[LIBRARY]);
-        for (int side = CLIMBING; side < table->sides; side++) {
-            print_time(row->seconds[side]);
-            double ratio = row->seconds[LIBRARY] / row->seconds[side];
+        for (int method = 0; method < METHODS; method++) {
+            double seconds = quickest(row, method);
+            double ratio = row->seconds[LIBRARY] / seconds;
+            print_time(seconds);
             printf(" %.*f |", ratio < 0.1 ? 5 : 2, ratio);
         }
         if (row->reason != NULL) {

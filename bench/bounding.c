@@ -1,13 +1,14 @@
-/* Walk, list and least interval from few searches, in C: what the method gains without the language. */
+/* Times, verdict, walk, list and least interval by the library's method, in C: what the method gains without the language. */
 #include "bounding.h"
 
 #include "climbs.h"
+#include "starting.h"
 
 enum {
     /* Room for something of each priority, at its number. */
     BY_PRIORITY = FQ_MOST_TASKS + 1,
     /* So many choices are tried before bounds are found, and up to so many records bounds are found at once. */
-    FEW_CHOICES = 2,
+    FEW_CHOICES = 1,
     FEW_RECORDS = 4
 };
 
@@ -24,18 +25,6 @@ struct rule {
     bool (*bears)(const struct table *, unsigned, unsigned, uint32_t);
     bool (*is_within)(const struct table *, const struct bounds *);
 };
-
-/* Whether a task is on time with a largest backup. */
-static bool bears(const struct table *table, unsigned own, unsigned fault, uint32_t backup)
-{
-    return fault == 0 ? elsewhere_with(table, own, backup) != 0 : itself_with(table, own, fault, backup) != 0;
-}
-
-/* Whether a task has an assured time with a largest backup. */
-static bool bears_assured(const struct table *table, unsigned own, unsigned fault, uint32_t backup)
-{
-    return assured_with(table, own, fault, backup) != 0;
-}
 
 /* The limit of a task: the largest backup is tried first, and what is below the limit so far needs no search. */
 static uint32_t find_limit(const struct rule *rule, const struct table *table, unsigned own, unsigned fault)
@@ -126,8 +115,8 @@ static bool is_within_assured(const struct table *table, const struct bounds *bo
     return true;
 }
 
-static const struct rule by_response = {read_sheet, passes, 0, bears, is_within};
-static const struct rule by_assured_time = {read_whole, is_assured, 1, bears_assured, is_within_assured};
+static const struct rule by_response = {read_sheet, passes_from_lowest, 0, bears, is_within};
+static const struct rule by_assured_time = {read_whole, is_assured_from_lowest, 1, bears_assured, is_within_assured};
 
 /* Writes the choices within the bounds, or only counts them where out is null. */
 static size_t list_within(const struct rule *rule, struct table *table, const struct bounds *bounds, uint8_t *out)
@@ -146,25 +135,56 @@ static size_t list_within(const struct rule *rule, struct table *table, const st
     return choices;
 }
 
-/* The least interval at which the sheet passes, 0 where there is none, or minus the refusal: what lies between is halved. */
+/* The response time of the record at a place. */
+int64_t bounding_response(const uint8_t *sheet, size_t len, size_t place)
+{
+    return time_at(read_sheet, started_response, sheet, len, place);
+}
+
+/* The assured time of the record at a place. */
+int64_t bounding_assured_response(const uint8_t *sheet, size_t len, size_t place)
+{
+    return time_at(read_whole, started_assured_time, sheet, len, place);
+}
+
+/* 1 where the sheet passes, 0 where it does not, or minus the refusal; like the library's, out of all response times. */
+int64_t bounding_verdict(const uint8_t *sheet, size_t len)
+{
+    struct table table;
+    uint8_t refusal = read_sheet(sheet, len, &table);
+    bool is_late = false;
+    if (refusal != 0) {
+        return -refusal;
+    }
+    for (unsigned own = 1; own <= table.count; own++) {
+        is_late = (started_response(&table, own) == 0) | is_late;
+    }
+    return !is_late;
+}
+
+/* The least interval at which the sheet passes, 0 where there is none, or minus the refusal: the longest is tried first, then what lies between is halved. */
 int64_t bounding_least_interval(const uint8_t *sheet, size_t len)
 {
     struct table table;
     uint8_t refusal = read_sheet(sheet, len, &table);
     uint32_t failing = 1;
-    uint32_t passing = HIGHEST + 1;
+    uint32_t passing = HIGHEST;
     if (refusal != 0) {
         return -refusal;
     }
+    table.interval = HIGHEST;
+    if (!passes_from_lowest(&table)) {
+        return 0;
+    }
     while (failing + 1 < passing) {
         table.interval = (failing + passing) / 2;
-        if (passes(&table)) {
+        if (passes_from_lowest(&table)) {
             passing = table.interval;
         } else {
             failing = table.interval;
         }
     }
-    return passing > HIGHEST ? 0 : passing;
+    return passing;
 }
 
 /* The next choice that meets a rule after any allowed one, 0 at the end, or minus the refusal; a few are tried before bounds are found. */
@@ -181,7 +201,7 @@ static int64_t next_choice(const struct rule *rule, const uint8_t *sheet, size_t
     if (refusal != 0) {
         return -refusal;
     }
-    if (response(&table, LOWEST) == 0) {
+    if (!is_on_time(&table, LOWEST)) {
         return 0;
     }
     for (; is_left && few > 0 && !rule->meets(&table); few--) {
@@ -208,7 +228,7 @@ static int64_t list_sheet(const struct rule *rule, const uint8_t *sheet, size_t 
     if (refusal != 0) {
         return -refusal;
     }
-    if (response(&table, LOWEST) == 0 || (table.count > FEW_RECORDS && is_hopeless(rule, &table))) {
+    if (!is_on_time(&table, LOWEST) || (table.count > FEW_RECORDS && is_hopeless(rule, &table))) {
         return 0;
     }
     find_bounds(rule, &table, &bounds);

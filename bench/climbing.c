@@ -6,16 +6,14 @@
 
 #include "climbs.h"
 
-/* What a walk and a list go by: how a sheet is read, what a choice has to meet, and whether the lowest task is asked first. */
+/* What a walk and a list go by: how a sheet is read, and what a choice has to meet. */
 struct rule {
     reading *read;
     meeting *meets;
-    bool is_lowest_first;
 };
 
-static const struct rule passing = {read_sheet, passes, false};
-static const struct rule passing_lowest_first = {read_sheet, passes, true};
-static const struct rule assured = {read_whole, is_assured, false};
+static const struct rule passing = {read_sheet, passes};
+static const struct rule assured = {read_whole, is_assured};
 
 /* Writes the choices that meet a rule, or only counts them where out is null. */
 static size_t list_choices(struct table *table, meeting *meets, uint8_t *out)
@@ -54,20 +52,6 @@ int64_t climbing_rewrite(const uint8_t *sheet, size_t len, uint8_t *out, size_t 
     }
     write_sheet(&table, out);
     return (int64_t)len;
-}
-
-/* The time of the record at a place, 0 where it has none, or minus the refusal. */
-static int64_t time_at(reading *read, uint32_t (*time)(const struct table *, unsigned), const uint8_t *sheet, size_t len, size_t place)
-{
-    struct table table;
-    uint8_t refusal = read(sheet, len, &table);
-    if (refusal != 0) {
-        return -refusal;
-    }
-    if (place >= table.count) {
-        return -FQ_BAD_PLACE;
-    }
-    return time(&table, table.priority_at[place]);
 }
 
 /* The response time of the record at a place. */
@@ -118,9 +102,6 @@ static int64_t next_choice(const struct rule *rule, const uint8_t *sheet, size_t
     if (refusal != 0) {
         return -refusal;
     }
-    if (rule->is_lowest_first && response(&table, LOWEST) == 0) {
-        return 0;
-    }
     while (is_left && !rule->meets(&table)) {
         is_left = set_following(&table);
     }
@@ -137,9 +118,6 @@ static int64_t list_sheet(const struct rule *rule, const uint8_t *sheet, size_t 
     uint8_t refusal = rule->read(sheet, len, &table);
     if (refusal != 0) {
         return -refusal;
-    }
-    if (rule->is_lowest_first && response(&table, LOWEST) == 0) {
-        return 0;
     }
     if (out_len < CHOICE_BYTES * count_choices(table.count)
         && out_len < CHOICE_BYTES * list_choices(&table, rule->meets, NULL)) {
@@ -158,18 +136,6 @@ int64_t climbing_next(const uint8_t *sheet, size_t len, uint32_t after)
 int64_t climbing_list(const uint8_t *sheet, size_t len, uint8_t *out, size_t out_len)
 {
     return list_sheet(&passing, sheet, len, out, out_len);
-}
-
-/* The next passing choice, unless the lowest task is late. */
-int64_t lowest_first_next(const uint8_t *sheet, size_t len, uint32_t after)
-{
-    return next_choice(&passing_lowest_first, sheet, len, after);
-}
-
-/* The passing choices, unless the lowest task is late. */
-int64_t lowest_first_list(const uint8_t *sheet, size_t len, uint8_t *out, size_t out_len)
-{
-    return list_sheet(&passing_lowest_first, sheet, len, out, out_len);
 }
 
 /* The next assured choice. */

@@ -21,8 +21,4 @@ int64_t climbing_assured_list(const uint8_t *sheet, size_t len, uint8_t *out, si
 int64_t climbing_replay(const uint8_t *sheet, size_t len, const uint8_t *log, size_t log_len, uint64_t *counts,
                         size_t counts_len);
 
-/* The walk and the list of passing choices, but the lowest task is asked first: late, it ends the walk and empties the list. */
-int64_t lowest_first_next(const uint8_t *sheet, size_t len, uint32_t after);
-int64_t lowest_first_list(const uint8_t *sheet, size_t len, uint8_t *out, size_t out_len);
-
 #endif

@@ -1,107 +1,14 @@
-/* One climb from its start to the least time, and the choices of a table, one after the other. */
+/* The baseline's times, each by one climb from its fixed part, and the choices of a table, one after the other. */
 #include "climbs.h"
 
-/* What a span has to cover: a fixed part, the jobs above a priority except one task's, and a backup per fault. */
-struct burden {
-    int64_t fixed;
-    unsigned above;
-    unsigned except;
-    uint32_t backup;
-};
-
-/* How often something that comes once in each period comes within a span of at least 1. */
-static uint32_t arrivals(uint32_t span, uint32_t period)
-{
-    return (span - 1) / period + 1;
-}
-
-/* The largest backup with at least a fault priority, one task left out, or 0; no lower priority can have it. */
-static uint32_t largest_backup(const struct table *table, unsigned least, unsigned except)
-{
-    uint32_t largest = 0;
-    for (unsigned priority = least; priority <= table->count; priority++) {
-        const struct record *record = &table->records[priority];
-        if (record->fault_priority >= least && record->backup > largest && priority != except) {
-            largest = record->backup;
-        }
-    }
-    return largest;
-}
-
-/* What a burden comes to within a span; 64 bits, as a backup at every tick can pass 32. */
-static int64_t due(const struct table *table, const struct burden *burden, uint32_t span)
-{
-    int64_t sum = burden->fixed + (int64_t)arrivals(span, table->interval) * burden->backup;
-    sum += (int64_t)arrivals(span, table->round) * (table->round - table->share);
-    for (unsigned priority = burden->above + 1; priority <= table->count; priority++) {
-        const struct record *record = &table->records[priority];
-        if (priority != burden->except) {
-            sum += arrivals(span, record->period) * record->cost;
-        }
-    }
-    return sum;
-}
-
-/* The least span from a start on that covers its burden, or 0 where it passes the deadline. */
-static uint32_t climb(const struct table *table, const struct burden *burden, uint32_t start, uint32_t deadline)
-{
-    int64_t span = start;
-    while (span <= deadline) {
-        int64_t needed = due(table, burden, (uint32_t)span);
-        if (needed <= span) {
-            return (uint32_t)span;
-        }
-        span = needed;
-    }
-    return 0;
-}
-
-/* The fixed part is the cost, and every fault brings the backup. */
-uint32_t elsewhere_with(const struct table *table, unsigned own, uint32_t backup)
-{
-    const struct record *record = &table->records[own];
-    struct burden burden = {record->cost, own, own, backup};
-    return climb(table, &burden, record->cost, record->deadline);
-}
-
-/* The first fault brings the task's own backup, and each task between its two priorities comes once more. */
-uint32_t itself_with(const struct table *table, unsigned own, unsigned fault, uint32_t backup)
-{
-    const struct record *record = &table->records[own];
-    struct burden burden = {(int64_t)record->cost + record->backup - backup, fault, own, backup};
-    for (unsigned priority = fault + 1; priority < own; priority++) {
-        burden.fixed += table->records[priority].cost;
-    }
-    return climb(table, &burden, (uint32_t)record->cost + record->backup, record->deadline);
-}
-
-/* Every other task above the fault priority counts, and every fault. */
-uint32_t assured_with(const struct table *table, unsigned own, unsigned fault, uint32_t backup)
-{
-    const struct record *record = &table->records[own];
-    struct burden burden = {record->cost, fault, own, backup};
-    return climb(table, &burden, record->cost, record->deadline);
-}
-
-/* The largest backup that goes before a task's own, or is it; no priority below the task's fault priority can have it. */
-static uint32_t backup_ahead(const struct table *table, unsigned own)
-{
-    unsigned fault = table->records[own].fault_priority;
-    uint32_t largest = table->records[own].backup;
-    for (unsigned priority = fault; priority <= table->count; priority++) {
-        const struct record *record = &table->records[priority];
-        unsigned least = priority > own ? fault : fault + 1;
-        if (record->fault_priority >= least && record->backup > largest) {
-            largest = record->backup;
-        }
-    }
-    return largest;
-}
+#include "burdens.h"
 
 /* The backup is the largest that goes before the task's own. */
 uint32_t assured_time(const struct table *table, unsigned own)
 {
-    return assured_with(table, own, table->records[own].fault_priority, backup_ahead(table, own));
+    const struct record *record = &table->records[own];
+    struct burden burden = assured_burden(table, own, record->fault_priority, backup_ahead(table, own));
+    return climb(table, &burden, record->cost, record->deadline);
 }
 
 /* The priorities are those of the records in their order. */
@@ -122,17 +29,35 @@ uint8_t read_whole(const uint8_t *sheet, size_t len, struct table *table)
     return refusal == 0 && is_shared(table) ? FQ_SHARED_PROCESSOR : refusal;
 }
 
+/* The place is refused after the sheet. */
+int64_t time_at(reading *read, timing *time, const uint8_t *sheet, size_t len, size_t place)
+{
+    struct table table;
+    uint8_t refusal = read(sheet, len, &table);
+    if (refusal != 0) {
+        return -refusal;
+    }
+    if (place >= table.count) {
+        return -FQ_BAD_PLACE;
+    }
+    return time(&table, table.priority_at[place]);
+}
+
 /* The time of a task while faults strike others only, or 0 where it is late. */
 static uint32_t struck_elsewhere(const struct table *table, unsigned own)
 {
-    return elsewhere_with(table, own, largest_backup(table, own, own));
+    const struct record *record = &table->records[own];
+    struct burden burden = elsewhere_burden(table, own, largest_backup(table, own, own));
+    return climb(table, &burden, record->cost, record->deadline);
 }
 
-/* The time of a task that is struck itself, or 0 where it is late; the tasks between cost one job more than they come. */
+/* The time of a task that is struck itself, or 0 where it is late. */
 static uint32_t struck_itself(const struct table *table, unsigned own)
 {
-    unsigned fault = table->records[own].fault_priority;
-    return itself_with(table, own, fault, largest_backup(table, fault, 0));
+    const struct record *record = &table->records[own];
+    unsigned fault = record->fault_priority;
+    struct burden burden = itself_burden(table, own, fault, largest_backup(table, fault, 0));
+    return climb(table, &burden, (int64_t)record->cost + record->backup, record->deadline);
 }
 
 /* The longer of the two times. */

@@ -1,4 +1,4 @@
-/* What the two C implementations of the measurements share: one climb, and a choice set in a table. */
+/* The climbs of the baseline, and what the two C implementations of the measurements share: a call's reading of a sheet, and a choice set in a table. */
 #ifndef CLIMBS_H
 #define CLIMBS_H
 
@@ -13,17 +13,14 @@ typedef uint8_t reading(const uint8_t *sheet, size_t len, struct table *table);
 /* The same as reading any sheet, but a processor that is shared is refused last. */
 uint8_t read_whole(const uint8_t *sheet, size_t len, struct table *table);
 
+/* Finds a task's time in a table, or 0. */
+typedef uint32_t timing(const struct table *table, unsigned own);
+
+/* Reads a sheet, and answers the time of the record at a place, 0 where it has none, or minus the refusal. */
+int64_t time_at(reading *read, timing *time, const uint8_t *sheet, size_t len, size_t place);
+
 /* Whether a table meets a rule under its present choice. */
 typedef bool meeting(const struct table *table);
-
-/* The time of a task while faults strike others only, with a largest backup, or 0 where it is late. */
-uint32_t elsewhere_with(const struct table *table, unsigned own, uint32_t backup);
-
-/* The time of a task that is struck itself, under a fault priority and with a largest backup, or 0 where it is late. */
-uint32_t itself_with(const struct table *table, unsigned own, unsigned fault, uint32_t backup);
-
-/* The assured time of a task, under a fault priority and with a largest backup, or 0 where there is none. */
-uint32_t assured_with(const struct table *table, unsigned own, unsigned fault, uint32_t backup);
 
 /* The assured time of a task, or 0 where it has none. */
 uint32_t assured_time(const struct table *table, unsigned own);

@@ -26,6 +26,7 @@ static const struct kind {
     {"13-cores.txt", 2, answer_cores},
     {"14-release.txt", 3, answer_release},
     {"assured.txt", 2, answer_assured},
+    {"slow.txt", 1, answer_slack},
 };
 
 /* The kind of a file. */

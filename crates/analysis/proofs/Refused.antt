@@ -178,7 +178,7 @@ module _ (rule : Rule) (t : Table) where
   unfolding boundsOf
   bounds-refused broken = simp (ne-eqb (ruleRefusal rule t) 0 broken)
 
--- and of bounds and of a table that `meets_within` and `is_hopeless` refuse
+-- and of bounds and of a table that `meets_lent` and `meets_choice` refuse
 pub verdict-refused : (refusal : ℕ) (said : Bool) → (refusal ≡ 0 → ⊥) → verdictOf refusal said ≡ record { refusal = refusal; yes = false }
 unfolding verdictOf
 verdict-refused refusal said broken = simp (ne-eqb refusal 0 broken)

@@ -12,14 +12,16 @@ use Rattle.analysis.proofs.judge_choice_by.Reads as judged
 use Rattle.analysis.proofs.judge_choice.Reads as chosen
 use Rattle.analysis.proofs.time_by.Reads as timed
 use Rattle.analysis.proofs.response_time.Reads as response
+use Rattle.analysis.proofs.time_in.Reads as timed-in
+use Rattle.analysis.proofs.assess_in.Reads as assessed-in
 use Rattle.analysis.proofs.assess_choice_by.Reads as choice-by
 use Rattle.analysis.proofs.assess_by.Reads as assessed-by
 use Rattle.analysis.proofs.assess_choice.Reads as assessed-choice
 use Rattle.analysis.proofs.assess.Reads as assessed
 use Rattle.analysis.proofs.least_interval.Reads as least
-use Rattle.analysis.proofs.is_hopeless.Reads as hopeless
 use Rattle.analysis.proofs.bounds_of.Reads as bounded
-use Rattle.analysis.proofs.meets_within.Reads as within
+use Rattle.analysis.proofs.meets_lent.Reads as lent
+use Rattle.analysis.proofs.meets_choice.Reads as met
 
 pub judge-rule-unique : (args : _) (a b : ℕ) (s : _) → ruled.Learnt tt args a s → ruled.Learnt tt args b s → a ≡ b
 judge-rule-unique args a b s = both
@@ -51,11 +53,17 @@ assess-unique args a b s = both
 pub least-interval-unique : (args : _) (a b : Interval) (s : _) → least.Learnt tt args a s → least.Learnt tt args b s → a ≡ b
 least-interval-unique args a b s = both
 
-pub is-hopeless-unique : (args : _) (a b : Verdict) (s : _) → hopeless.Learnt tt args a s → hopeless.Learnt tt args b s → a ≡ b
-is-hopeless-unique args a b s = both
+pub time-in-unique : (κs : _) (args : _) (a b : Timed) (s : _) → timed-in.Learnt κs args a s → timed-in.Learnt κs args b s → a ≡ b
+time-in-unique κs args a b s = both
+
+pub assess-in-unique : (κs : _) (args : _) (a b : Assessment) (s : _) → assessed-in.Learnt κs args a s → assessed-in.Learnt κs args b s → a ≡ b
+assess-in-unique κs args a b s = both
 
 pub bounds-of-unique : (args : _) (a b : Bounds) (s : _) → bounded.Learnt tt args a s → bounded.Learnt tt args b s → a ≡ b
 bounds-of-unique args a b s = both
 
-pub meets-within-unique : (args : _) (a b : Verdict) (s : _) → within.Learnt tt args a s → within.Learnt tt args b s → a ≡ b
-meets-within-unique args a b s = both
+pub meets-lent-unique : (κs : _) (args : _) (a b : Verdict) (s : _) → lent.Learnt κs args a s → lent.Learnt κs args b s → a ≡ b
+meets-lent-unique κs args a b s = both
+
+pub meets-choice-unique : (args : _) (a b : Verdict) (s : _) → met.Learnt tt args a s → met.Learnt tt args b s → a ≡ b
+meets-choice-unique args a b s = both

@@ -1,53 +1,88 @@
-// The assured times: that of a record with any largest backup, and with the largest backup that a choice brings there.
+// The assured times: N, the largest backup of those that run before the backup of a task, and its own; the time with it, and whether every task has one within its deadline.
+// They are computed over columns by rank; N also out of lists in record order, for the bounds.
 ghost use mathlib.Core.Path.{_≡_};
 ghost use Prim.Native.Nat.{_≤_, _<_, _+_};
-ghost use Rattle.analysis.specs.Common.Columns.{ColumnsOf};
-ghost use Rattle.sheet.specs.Rules.{tableRefusal};
-ghost use Rattle.analysis.specs.Common.Order.{RankedUnder, HeldChoice};
 ghost use mathlib.Core.Bool.{cond, _&&_, _||_};
-ghost use mathlib.Core.List.{[]};
-ghost use Rattle.analysis.specs.Common.Tasks.{tasksOf};
-ghost use Rattle.analysis.specs.Common.Search.{leastWithin};
 ghost use lib.Dec.{eqb, ltb};
-ghost use Rattle.analysis.specs.Assured.Equation.{askedAssured, backupAhead};
-ghost use Rattle.analysis.specs.Assured.Time.{assuredTime};
+ghost use Rattle.analysis.specs.Assured.Equation.{backupAhead};
+ghost use Rattle.analysis.specs.Assured.Time.{assuredWithin, unassured, assured};
 ghost use Rattle.analysis.specs.Assured.Ahead.{largestAhead};
-ghost use Rattle.analysis.specs.declared.Rule.the-variants.{Assured};
-ghost use Rattle.analysis.specs.ByRule.{ruleRefusal};
-use crate::Columns;
-use crate::Demand;
-use crate::Ordered;
-use crate::common::columns;
-use crate::common::order;
-use crate::common::search;
-use crate::common::workload;
-use sheet::Table;
+ghost use Rattle.analysis.specs.Common.ByRank.{ranked, InOrder, ChosenIn};
+use crate::common::by_rank::Frame;
+use crate::common::load;
 
-// The assured time of the record at a rank, under a fault priority and with a largest backup, or 0. The records above its fault priority are those before the last.
-pub fn assured_with(
-    table: Table,
-    interval: u16,
+pub mod times;
+
+// A backup, or 0.
+fn counted(is_counted: bool, backup: u16) -> u16
+    ensures { λ r. ⌜ r ≡ cond «is_counted» backup 0 ⌝ }
+{
+    if is_counted { backup } else { 0 }
+}
+
+// N of the task at a rank: of the tasks before it those count whose fault priority is no lower than its own, of those after it only those whose is higher.
+fn backup_ahead<'a>(columns: &'a [u16; 32], faults: &'a [u8; 8], frame: Frame, rank: usize) -> u16
+    requires order { ⌜ InOrder (ranked (now columns) frame (now faults)) ⌝ }
+    requires below { ⌜ rank < frame .count ⌝ }
+    ensures { λ r. ⌜ r ≡ backupAhead (ranked (now (columns .entry)) frame (now (faults .entry))) rank ⌝ }
+{
+    let fault = faults[rank];
+    let before = load::largest(columns, faults, rank, fault);
+    let count = frame.count as usize;
+    let mut most = load::larger(before, columns[16 + rank]);
+    let mut other = rank + 1;
+    while other < count {
+        most = load::larger(most, counted(fault < faults[other], columns[16 + other]));
+        other += 1;
+    }
+    most
+}
+
+// The assured time of the task at a rank within a limit, or 0.
+pub fn assured_time<'a>(
+    columns: &'a [u16; 32],
+    faults: &'a [u8; 8],
+    frame: Frame,
     rank: usize,
-    fault: u8,
-    backup: u16,
     limit: u64,
 ) -> u64
-    requires ranked { ⌜ RankedUnder table interval rank fault ⌝ }
-    requires limited { ⌜ limit < 65536 ⌝ }
-    ensures is { λ r. ⌜ r ≡ leastWithin (askedAssured (tasksOf table interval []) rank fault backup) 1 limit ⌝ }
-    ensures narrow { λ r. ⌜ r < 65536 ⌝ }
+    requires order { ⌜ InOrder (ranked (now columns) frame (now faults)) ⌝ }
+    requires chosen { ⌜ ChosenIn (ranked (now columns) frame (now faults)) ⌝ }
+    requires below { ⌜ rank < frame .count ⌝ }
+    requires short { ⌜ limit < 65536 ⌝ }
+    ensures same { λ r. ⌜ r ≡ assuredWithin limit (ranked (now (columns .entry)) frame (now (faults .entry))) rank ⌝ }
+    ensures small { λ r. ⌜ r < 65536 ⌝ }
 {
-    let task = table.records[rank];
-    let until = (table.count - fault) as usize;
-    let base = workload::wide(task.cost);
-    let sought = Demand {
-        base,
-        rank,
-        until,
-        backup,
-        paid: 0,
-    };
-    search::climb(table, interval, sought, base, limit)
+    let backup = backup_ahead(columns, faults, frame, rank);
+    times::assured_with(columns, frame, rank, faults[rank], backup, limit)
+}
+
+// Whether the task at a rank has no assured time within its deadline.
+fn is_unassured<'a>(columns: &'a [u16; 32], faults: &'a [u8; 8], frame: Frame, rank: usize) -> bool
+    requires order { ⌜ InOrder (ranked (now columns) frame (now faults)) ⌝ }
+    requires chosen { ⌜ ChosenIn (ranked (now columns) frame (now faults)) ⌝ }
+    requires below { ⌜ rank < frame .count ⌝ }
+    ensures { λ r. ⌜ r ≡ unassured (ranked (now (columns .entry)) frame (now (faults .entry))) rank ⌝ }
+{
+    let deadline = load::wide(columns[24 + rank]);
+    let backup = backup_ahead(columns, faults, frame, rank);
+    !times::assured_met(columns, frame, rank, faults[rank], backup, deadline)
+}
+
+// Whether every task is assured, from the lowest up.
+pub fn assured_in_order<'a>(columns: &'a [u16; 32], faults: &'a [u8; 8], frame: Frame) -> bool
+    requires order { ⌜ InOrder (ranked (now columns) frame (now faults)) ⌝ }
+    requires chosen { ⌜ ChosenIn (ranked (now columns) frame (now faults)) ⌝ }
+    ensures { λ r. ⌜ r ≡ assured (ranked (now (columns .entry)) frame (now (faults .entry))) ⌝ }
+{
+    let mut rank = frame.count as usize;
+    while 0 < rank {
+        rank -= 1;
+        if is_unassured(columns, faults, frame, rank) {
+            return false;
+        }
+    }
+    true
 }
 
 // Whether a task is another's itself, or has a higher fault priority, or the same one and a higher priority.
@@ -57,24 +92,17 @@ fn is_ahead(is_itself: bool, own_fault: u8, fault: u8, own_priority: u8, priorit
     is_itself | ((own_fault < fault) | ((fault == own_fault) & (own_priority < priority)))
 }
 
-// A backup, or 0.
-fn counted(is_counted: bool, backup: u16) -> u16
-    ensures { λ r. ⌜ r ≡ cond «is_counted» backup 0 ⌝ }
-{
-    if is_counted { backup } else { 0 }
-}
-
-// The largest backup of those that run before the backup of the record at a place, and its own.
-pub fn largest_ahead(
-    backups: [u16; 8],
-    priorities: [u8; 8],
-    choice: [u8; 8],
+// N of the record at a place, out of lists in record order.
+pub fn largest_ahead<'a>(
+    backups: &'a [u16; 8],
+    priorities: &'a [u8; 8],
+    choice: &'a [u8; 8],
     count: usize,
     place: usize,
 ) -> u16
     requires few { ⌜ count ≤ 8 ⌝ }
     requires here { ⌜ place < 8 ⌝ }
-    ensures { λ r. ⌜ r ≡ largestAhead backups priorities choice place count ⌝ }
+    ensures { λ r. ⌜ r ≡ largestAhead (now (backups .entry)) (now (priorities .entry)) (now (choice .entry)) place count ⌝ }
 {
     let own_fault = choice[place];
     let own_priority = priorities[place];
@@ -88,35 +116,8 @@ pub fn largest_ahead(
             own_priority,
             priorities[other],
         );
-        most = workload::larger(most, counted(ahead, backups[other]));
+        most = load::larger(most, counted(ahead, backups[other]));
         other += 1;
     }
     most
-}
-
-// N of the record at a place of a good table under a choice.
-fn backup_ahead(table: Table, columns: Columns, choice: [u8; 8], place: usize) -> u16
-    requires good { ⌜ tableRefusal table ≡ 0 ⌝ }
-    requires columns { ⌜ ColumnsOf table columns ⌝ }
-    requires here { ⌜ place < table .count ⌝ }
-    ensures { λ r. ⌜ r ≡ backupAhead (tasksOf table (table .interval) choice) place ⌝ }
-{
-    let backups = columns.backups;
-    let priorities = columns.priorities;
-    largest_ahead(backups, priorities, choice, table.count as usize, place)
-}
-
-// The assured time of the record at a place of a table that is not refused, or 0.
-pub fn assured_at(table: Table, held: Ordered, choice: [u8; 8], place: usize) -> u64
-    requires fine { ⌜ ruleRefusal Assured table ≡ 0 ⌝ }
-    requires chosen { ⌜ HeldChoice table choice held ⌝ }
-    requires here { ⌜ place < table .count ⌝ }
-    ensures is { λ r. ⌜ r ≡ assuredTime (tasksOf table (table .interval) choice) place ⌝ }
-    ensures narrow { λ r. ⌜ r < 65536 ⌝ }
-{
-    let backup = backup_ahead(table, columns::columns_of(table), choice, place);
-    let rank = order::rank_of(table, place);
-    let fault = choice[place];
-    let limit = workload::wide(search::LONGEST);
-    assured_with(held.table, table.interval, rank, fault, backup, limit)
 }

@@ -1,7 +1,8 @@
 // What both rules share.
+pub mod by_rank;
 pub mod choice;
+pub mod climb;
 pub mod columns;
 pub mod entries;
-pub mod order;
-pub mod search;
-pub mod workload;
+pub mod jump;
+pub mod load;

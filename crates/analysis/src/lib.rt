@@ -2,22 +2,22 @@
 // Every call answers any table: a refused one gets its number, beside zeros, no, or nothing else.
 ghost use mathlib.Core.Path.{_≡_};
 ghost use Rattle.analysis.specs.Published.Answers.{timedAnswer, choiceRefusal, choiceAssessment, ownAssessment, intervalAnswer};
-ghost use Rattle.analysis.specs.ByRule.{ruleRefusal, judgedRefusal, choiceAssessmentBy, ownAssessmentBy, placeRefusal, timedBy};
-ghost use Rattle.analysis.specs.Bounds.Hopeless.{hopelessAnswer};
+ghost use Rattle.analysis.specs.ByRule.{ruleRefusal, judgedRefusal, choiceAssessmentBy, ownAssessmentBy, meetsAnswer, placeRefusal, timedBy};
+ghost use Rattle.analysis.specs.BySheet.{timedIn, assessedIn};
 ghost use Rattle.analysis.specs.Bounds.Found.{boundsOf};
-ghost use Rattle.analysis.specs.Bounds.Within.{withinAnswer};
-use crate::bounding::hopeless;
+ghost use Rattle.analysis.specs.Bounds.Within.{boundsIn, withinAnswer};
 use crate::bounding::within;
 use crate::common::choice;
 use crate::common::entries;
-use crate::common::order;
 use crate::published::interval;
 use sheet::Table;
 
 mod assured;
 mod bounding;
 mod by_rule;
+mod by_sheet;
 mod common;
+mod meeting;
 mod published;
 
 // A response time, or late.
@@ -39,13 +39,13 @@ pub struct Entry {
     pub slack: Slack,
 }
 
-// What `response_time` and `time_by` answer: the refusal, or 0 beside the record's entry.
+// What `response_time`, `time_by` and `time_in` answer: the refusal, or 0 beside the record's entry.
 pub struct Timed {
     pub refusal: u8,
     pub entry: Entry,
 }
 
-// What `assess`, `assess_choice` and both by a rule answer: the refusal, or 0 beside an entry for each record and whether no task is late.
+// What `assess`, `assess_choice`, both by a rule and `assess_in` answer: the refusal, or 0 beside an entry for each record and whether no task is late.
 pub struct Assessment {
     pub refusal: u8,
     pub entries: [Entry; 8],
@@ -65,30 +65,13 @@ pub enum Rule {
     Assured,
 }
 
-// One of the equations as the code computes it, for the record at a rank: a base, the records before the rank and those after it and before the last,
-// the backup paid for each fault, and what is already paid.
-pub struct Demand {
-    pub base: u64,
-    pub rank: usize,
-    pub until: usize,
-    pub backup: u16,
-    pub paid: u64,
-}
-
-// A table with its records from the highest priority to the lowest, and beside them the fault priorities of a choice in that order and the records' original places.
-pub struct Ordered {
-    pub table: Table,
-    pub faults: [u8; 8],
-    pub places: [usize; 8],
-}
-
 // The priorities and the backups of a table's records in record order, 0 past the count.
 pub struct Columns {
     pub priorities: [u8; 8],
     pub backups: [u16; 8],
 }
 
-// How large a backup each record of a table bears under a rule: the refusal, or 0 beside the records' priorities and backups in record order, and the limits of each, one more
+// How large a backup each record of a table bears under a rule: the refusal, or 0 beside the count, 0 where no choice meets the rule, the records' priorities and backups in record order, and the limits of each, one more
 // than the largest backup that it bears or 0; for the record at a place as M at 9 times the place, as N under a fault priority q at 9 times the place plus q.
 pub struct Bounds {
     pub refusal: u8,
@@ -98,16 +81,7 @@ pub struct Bounds {
     pub limits: [u32; 72],
 }
 
-// A choice beside bounds: the records' backups and priorities in record order, how many records there are, and the tops, the largest backup at or above each priority.
-pub struct Weighed {
-    pub tops: [u16; 9],
-    pub backups: [u16; 8],
-    pub priorities: [u8; 8],
-    pub choice: [u8; 8],
-    pub count: usize,
-}
-
-// What `is_hopeless` and `meets_within` answer: the refusal, or 0 beside yes or no.
+// What `meets_choice` and `meets_lent` answer: the refusal, or 0 beside yes or no.
 pub struct Verdict {
     pub refusal: u8,
     pub yes: bool,
@@ -167,8 +141,7 @@ pub fn time_by(table: Table, place: usize, rule: Rule) -> Timed
             entry: entries::no_entry(),
         };
     }
-    let choice = choice::own_choice(table);
-    let entry = by_rule::entry_at(table, order::ordered(table, choice), choice, place, rule);
+    let entry = by_rule::entry_of(table, choice::own_choice(table), place, rule);
     Timed { refusal: 0, entry }
 }
 
@@ -177,6 +150,27 @@ pub fn response_time(table: Table, place: usize) -> Timed
     ensures { λ r. ⌜ r ≡ timedAnswer table place ⌝ }
 {
     time_by(table, place, Rule::Published)
+}
+
+// The same by a rule, of a sheet's bytes, which are read straight into columns: the sheet's own refusal comes first.
+pub fn time_in(sheet: &[u8], place: usize, rule: Rule) -> Timed
+    ensures { λ r. ⌜ r ≡ timedIn rule (now (sheet .entry)) place ⌝ }
+{
+    let mut columns = [0u16; 32];
+    let mut faults = [0u8; 8];
+    let mut ranks = [0u8; 8];
+    let read = sheet::read_ranked(sheet, &mut columns, &mut faults, &mut ranks);
+    let refusal = by_sheet::judge_place(read, place, rule);
+    if refusal != 0 {
+        return Timed {
+            refusal,
+            entry: entries::no_entry(),
+        };
+    }
+    let frame = by_sheet::frame_of(read);
+    let rank = ranks[place] as usize;
+    let entry = by_rule::entry_at(&columns, &faults, frame, rank, rule);
+    Timed { refusal: 0, entry }
 }
 
 // Each record's entry by a rule, and whether no task is late by it, under a choice that takes the place of the table's own fault priorities.
@@ -211,6 +205,21 @@ pub fn assess(table: Table) -> Assessment
     assess_by(table, Rule::Published)
 }
 
+// The same by a rule, of a sheet's bytes, which are read straight into columns: the sheet's own refusal comes first.
+pub fn assess_in(sheet: &[u8], rule: Rule) -> Assessment
+    ensures { λ r. ⌜ r ≡ assessedIn rule (now (sheet .entry)) ⌝ }
+{
+    let mut columns = [0u16; 32];
+    let mut faults = [0u8; 8];
+    let mut ranks = [0u8; 8];
+    let read = sheet::read_ranked(sheet, &mut columns, &mut faults, &mut ranks);
+    let refusal = by_sheet::judge(read, rule);
+    if refusal != 0 {
+        return entries::no_times(refusal);
+    }
+    by_rule::assessed(&columns, &faults, &ranks, by_sheet::frame_of(read), rule)
+}
+
 // The smallest fault interval at which the table passes with its own fault priorities.
 pub fn least_interval(table: Table) -> Interval
     ensures { λ r. ⌜ r ≡ intervalAnswer table ⌝ }
@@ -226,22 +235,8 @@ pub fn least_interval(table: Table) -> Interval
     Interval::Least(least)
 }
 
-// Whether some record is late under every choice because of its own backup: one search for each record at most.
-pub fn is_hopeless(table: Table) -> Verdict
-    ensures { λ r. ⌜ r ≡ hopelessAnswer table ⌝ }
-{
-    let refusal = sheet::judge_table(table);
-    if refusal != 0 {
-        return Verdict {
-            refusal,
-            yes: false,
-        };
-    }
-    let yes = hopeless::some_missed(table);
-    Verdict { refusal: 0, yes }
-}
-
-// How large a backup each record bears under a rule, found by at most ten searches for each record and each fault priority that it can have, and for M.
+// How large a backup each record bears under a rule, found by at most ten searches for each record and each fault priority that it can have, and for M;
+// zeros beside 0 where a few searches tell that no choice meets the rule.
 pub fn bounds_of(table: Table, rule: Rule) -> Bounds
     ensures { λ r. ⌜ r ≡ boundsOf rule table ⌝ }
 {
@@ -252,17 +247,40 @@ pub fn bounds_of(table: Table, rule: Rule) -> Bounds
     bounding::found(table, rule)
 }
 
-// Whether a choice stays within bounds under a rule: for those of a good table and a choice that it has, whether it meets by the rule.
-pub fn meets_within(bounds: Bounds, choice: [u8; 8], rule: Rule) -> Verdict
-    ensures { λ r. ⌜ r ≡ withinAnswer rule bounds choice ⌝ }
+// Whether a choice stays within bounds under a rule, which are lent field by field, so that no choice costs a copy of them: for those of a good table and a choice that it has, whether it meets the rule.
+pub fn meets_lent<'a>(
+    refusal: u8,
+    count: u8,
+    priorities: &'a [u8; 8],
+    backups: &'a [u16; 8],
+    limits: &'a [u32; 72],
+    choice: &'a [u8; 8],
+    rule: Rule,
+) -> Verdict
+    ensures { λ r. ⌜ r ≡ withinAnswer rule (boundsIn refusal count (now (priorities .entry)) (now (backups .entry)) (now (limits .entry))) (now (choice .entry)) ⌝ }
 {
-    let refusal = within::judge(bounds.refusal, bounds.count);
-    if refusal != 0 {
+    let number = within::judge(refusal, count);
+    if number != 0 {
         return Verdict {
-            refusal,
+            refusal: number,
             yes: false,
         };
     }
-    let yes = within::within(bounds, choice, rule);
+    let yes = within::within(priorities, backups, limits, choice, count, rule);
+    Verdict { refusal: 0, yes }
+}
+
+// Whether a choice meets a rule, found without its times: yes or no is all that is asked of each task.
+pub fn meets_choice(table: Table, choice: [u8; 8], rule: Rule) -> Verdict
+    ensures { λ r. ⌜ r ≡ meetsAnswer rule table choice ⌝ }
+{
+    let number = judge_choice_by(table, choice, rule);
+    if number != 0 {
+        return Verdict {
+            refusal: number,
+            yes: false,
+        };
+    }
+    let yes = meeting::meets(table, choice, rule);
     Verdict { refusal: 0, yes }
 }

@@ -21,8 +21,7 @@ use Rattle.analysis.specs.Common.Supplier.{supplierOf}
 use Rattle.analysis.specs.Published.Response.{timeElsewhere, timeItself, responseWithin, responseTime}
 use Rattle.analysis.specs.Assured.Equation.{askedAssured, isOver, backupAhead, assuredEquation}
 use Rattle.analysis.specs.Assured.Time.{assuredWithin, assuredTime}
-use Rattle.analysis.proofs.Laws.Common.Rounding.{up-some}
-use Rattle.analysis.proofs.Laws.Common.Tied.{first-paid}
+use Rattle.analysis.proofs.Laws.Common.Rounding.{up-some, first-paid}
 use Rattle.analysis.proofs.Laws.Common.Easier.{NoLater, least-easier}
 use Rattle.analysis.proofs.Laws.Published.Larger.{late-elsewhere, late-itself, on-time}
 use Rattle.analysis.proofs.Laws.Assured.Raised.{ahead-tells}

@@ -2,7 +2,7 @@
 use Prim.Native.Nat.{ℕ, suc, _+_, _≤_, _<_}
 use mathlib.Core.Path.{_≡_, sym, ap, ap₂, _∙_}
 use mathlib.Core.Bool.{Bool, true, false, cond}
-use mathlib.Core.List.{List, [], _∷_, _++_, append-nil}
+use mathlib.Core.List.{List, [], _∷_, _++_, map, append-nil}
 use native.Mathlib.Numerals.{add-one}
 use native.Mathlib.Omega.{arith}
 use borrow.Author.Tests.{lt-ltb, le-ltb}
@@ -76,6 +76,11 @@ module _ (priorities choice : List ℕ) (eight : length priorities ≡ 8) (eight
         ∙ ap (λ (l : List ℕ). record { rose = true; entries = l }) (ap (λ (r : Carried). take k choice ++ r .entries) same ∙ sym (stored (suc (getD choice k 0))))
 
 -- after a choice that is not all zero, the next is what the carry makes
-pub next-carried : (ps c l : List ℕ) (b : Bool) → allZero c ≡ false → carried ps c ≡ record { rose = b; entries = l } → record { «is_there» = b; choice = l } ≡ nextOf ps c
+pub next-carried : (ps c : List ℕ) → allZero c ≡ false → nextOf ps c ≡ carried ps c
 unfolding nextOf
-next-carried ps c l b some e = simp (some, e)
+next-carried ps c some = simp some
+
+-- after eight zeros it is the first entries
+pub next-first : (ps c : List ℕ) → allZero c ≡ true → nextOf ps c ≡ record { rose = true; entries = map firstFor ps }
+unfolding nextOf
+next-first ps c zeros = simp zeros

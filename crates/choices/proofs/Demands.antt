@@ -19,19 +19,19 @@ use Rattle.sheet.proofs.Cases.{good-table, good-at}
 use Rattle.sheet.proofs.Refused.{given-unless}
 use Rattle.analysis.specs.Common.Tasks.{Tasks, tasksOf, ownChoice}
 use Rattle.analysis.specs.Published.Response.{responseTime, late, passes}
+use Rattle.analysis.specs.Published.Lowest.{Lowest, lowestLate}
 use Rattle.analysis.specs.declared.Rule.the-variants.{Published}
 use Rattle.analysis.specs.ByRule.{meets, ruleRefusal}
 use Rattle.analysis.specs.Common.Columns.{prioritiesOf}
 use Rattle.analysis.specs.Common.Allowed.{allAllowed}
 use Rattle.analysis.proofs.Laws.Common.Choice.{Allowed, allowed-exactly, own-allowed}
-use Rattle.analysis.proofs.Laws.Published.Lowest.{response-lowest}
+use Rattle.analysis.proofs.Laws.Published.Lowest.{response-lowest, lowest-late-same, lowest-tested}
 use Rattle.choices.specs.declared.Walk.{Walk}
 use Rattle.choices.specs.declared.Arrival.the-variants.{Found, End}
 use Rattle.choices.specs.declared.Stepped.{Stepped}
 use Rattle.choices.specs.Choices.{choicesOf, chosen, passingOf}
 use Rattle.choices.specs.Order.{before, allZero, afterOf}
 use Rattle.choices.specs.Answers.{startWalk, walkRefusal, arriveAt, stepFrom, stepAnswer, entryBytes, leavesFrom, listRefusal, listAnswer, listLeaves}
-use Rattle.choices.specs.Lowest.{Lowest, lowestLate}
 use Rattle.choices.proofs.Sifted.{sift-none, sift-fewer}
 use Rattle.choices.proofs.Members.{sift-members, choices-sound, choices-complete}
 use Rattle.choices.proofs.Advancing.{testWith, starts, good-start}
@@ -39,7 +39,7 @@ use Rattle.choices.specs.Stepping.{factorial}
 use Rattle.choices.proofs.Counted.{filled-factorial}
 use Rattle.choices.proofs.Ordered.{before-irreflexive, before-asymmetric, ascending-places}
 use Rattle.choices.proofs.Listed.{from-start, passing-ascending, passing-eight, start-allowed, next-listed, room-empty}
-use Rattle.choices.proofs.LowestTask.{lowest-late-same, lowest-tested, tested-none}
+use Rattle.choices.proofs.Hopeless.{late-chosen}
 use Rattle.choices.proofs.Entries.{entry-at}
 
 -- "eight zero entries"
@@ -208,7 +208,7 @@ module _ (test : Tasks → Bool) (t : Table) (good : tableRefusal t ≡ 0) (refu
 
   stands : (k : ℕ) → k ≤ length (chosen test t) → (starts t (walkAfter stepOf k .entries) ≡ true) × (afterOf (walkAfter stepOf k .entries) (chosen test t) ≡ drop k (chosen test t))
   unfolding walkAfter
-  stands zero h = (start-allowed test t good, from-start test t good)
+  stands zero h = (start-allowed (prioritiesOf t), from-start test t good)
   stands (suc k) h =
       let at = stands k (omega arith) in
       let found = at .1 ∙ drop-cons (chosen test t) k [] h in
@@ -268,9 +268,9 @@ list-bytes t out = list-put (listRefusal t out) (passingOf t) out
 -- where the lowest task is late the list is empty
 late-none : (t : Table) → tableRefusal t ≡ 0 → lowestLate t ≡ true → passingOf t ≡ []
 unfolding passingOf meets ruleRefusal
-late-none t good = tested-none t Published good
+late-none t good = late-chosen t Published good
 
--- document 02, request 8, about the lowest task of a table. Every good table has one and only one: `lowest-there` and `lowest-once` of LowestTask.antt.
+-- document 02, request 8, about the lowest task of a table. Every good table has one and only one: `lowest-there` and `lowest-once` of analysis.
 module _ (t : Table) (place : ℕ) (at : Lowest t place) where
   -- "The lowest task's response is the same under every choice."
   pub lowest-response : (c d : List ℕ) → Allowed t c → Allowed t d → responseTime (tasksOf t (t .interval) c) place ≡ responseTime (tasksOf t (t .interval) d) place
@@ -280,7 +280,7 @@ module _ (t : Table) (place : ℕ) (at : Lowest t place) where
   module _ (good : tableRefusal t ≡ 0) (c : List ℕ) (allowed : Allowed t c) (is-late : late (tasksOf t (t .interval) c) place ≡ true) where
     -- "When it is late the list is empty", under whichever choice it was asked
     pub late-empty : passingOf t ≡ []
-    late-empty = late-none t good (lowest-tested t good place at ∙ lowest-late-same t place at (ownChoice t) c (own-allowed t good) allowed ∙ is-late)
+    late-empty = late-none t good (lowest-tested t good place at ∙ lowest-late-same t place at (ownChoice t) c (own-allowed t good .each) (allowed .each) ∙ is-late)
 
     -- so that the list has no entries whatever room there is, and leaves the output as it was: never 11
     pub late-list : (out : List ℕ) → (listAnswer t out ≡ record { refusal = 0; entries = 0 }) × (listLeaves t out ≡ out)

@@ -10,7 +10,8 @@ pub mod Members
 pub mod Ordered
 pub mod Advancing
 pub mod Listed
-pub mod LowestTask
+pub mod Hopeless
 pub mod Unique
 pub mod Demands
+pub mod Bounded
 pub mod Refused

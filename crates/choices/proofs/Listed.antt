@@ -1,34 +1,30 @@
 -- Going through the list of the choices for which a test holds one by one: what comes after each, and that each can be gone on from. Assumes nothing.
 use Prim.Native.Nat.{ℕ, suc, _+_, _*_, _≤_, _<_}
 use mathlib.Core.Path.{_≡_, refl, sym, ap, ap₂, _∙_, subst}
-use mathlib.Core.Bool.{Bool, true, false, cond, _||_, true≢false, or-true}
+use mathlib.Core.Bool.{Bool, true, false, cond, _||_, or-true}
 use mathlib.Core.List.{List, [], _∷_, List·Memᴰ as In, List·Memᴰ·head as here}
 use native.Mathlib.Numerals.{add-one}
 use native.Mathlib.Omega.{arith}
 use borrow.Author.Tests.{lt-ltb, le-ltb}
 use lib.ListN.{length, getD, drop, replicate, length-drop}
 use lib.Seq.{drop-cons}
-use Rattle.places.proofs.Filled.{alike-at, filled-within}
 use Rattle.places.proofs.Refusals.{first-of, next-of}
 use Rattle.sheet.specs.declared.Table.{Table}
-use Rattle.sheet.specs.Layout.{recordAt}
 use Rattle.sheet.specs.Rules.{tableRefusal}
-use Rattle.sheet.proofs.Cases.{good-table, good-at}
 use Rattle.analysis.specs.Common.Tasks.{Tasks}
 use Rattle.analysis.specs.Common.Columns.{prioritiesOf}
 use Rattle.analysis.specs.Common.Allowed.{allAllowed}
-use Rattle.analysis.proofs.Laws.Common.Choice.{fault-allowed, allowed-length, length-priorities}
+use Rattle.analysis.proofs.Laws.Common.Choice.{fault-allowed, allowed-length}
 use Rattle.choices.specs.Choices.{choicesOf, sift, chosen}
 use Rattle.choices.specs.Order.{before, allZero, afterOf}
 use Rattle.choices.specs.Answers.{bytesOf, roomRefusal, listFrom, leavesFrom}
-use Rattle.choices.specs.declared.Later.{Later}
-use Rattle.choices.specs.Stepping.{small, foundIn}
+use Rattle.choices.specs.Stepping.{small, Levels}
 use Rattle.choices.proofs.Sifted.{sift-drops, sift-all}
 use Rattle.choices.proofs.Allowed.{allowed-within}
-use Rattle.choices.proofs.Onward.{zero-before-sift}
+use Rattle.choices.proofs.Onward.{startsIn, zero-before-sift}
 use Rattle.choices.proofs.Members.{sift-members, choices-sound}
 use Rattle.choices.proofs.Ordered.{before-irreflexive, before-asymmetric, before-transitive, Ascending, none, more, sift-ascending, choices-ascending}
-use Rattle.choices.proofs.Advancing.{testWith, starts, first-priority}
+use Rattle.choices.proofs.Advancing.{testWith, table-levels}
 
 -- in an ascending list, what comes after the first one found after a start is what was found after it
 pub after-first : (w c : List ℕ) (rest : List (List ℕ)) {l : List (List ℕ)} → Ascending l → afterOf w l ≡ c ∷ rest → afterOf c l ≡ rest
@@ -46,88 +42,93 @@ after-first w c rest (more {c = d} {l = l} later up) e = go (before w d) refl (a
         let member : In c l = sift-members (before w) l .0 (subst (In c) (sym e) (here refl)) .0 in
         sift-drops (before c) d l (before-asymmetric d c (later c member)) ∙ earlier e
 
-pub passing-ascending : (test : Tasks → Bool) (t : Table) → Ascending (chosen test t)
-unfolding chosen
-passing-ascending test t = sift-ascending (testWith test t) (choices-ascending (prioritiesOf t))
-
--- a choice for which the test holds is allowed
-pub passing-allowed : (test : Tasks → Bool) (t : Table) {c : List ℕ} → In c (chosen test t) → allAllowed (prioritiesOf t) c ≡ true
-unfolding chosen
-passing-allowed test t m = choices-sound (prioritiesOf t) (sift-members (testWith test t) (choicesOf (prioritiesOf t)) .0 m .0)
-
 -- no entry of an allowed choice is above its priority
 entry-within : (ps c : List ℕ) → allAllowed ps c ≡ true → (k : ℕ) → getD c k 0 ≤ getD ps k 0
 entry-within ps c e k = allowed-within (getD ps k 0) (getD c k 0) (fault-allowed ps c e k) .1
 
-module _ (test : Tasks → Bool) (t : Table) (good : tableRefusal t ≡ 0) where
-  priority-within : (k : ℕ) → getD (prioritiesOf t) k 0 ≤ 8
-  unfolding prioritiesOf
-  priority-within =
-      let known = good-table t good in
-      filled-within 8 (λ place. recordAt (t .records) place .priority) (replicate 8 0) (λ k. omega (arith, alike-at {A = ℕ} 0 8 k)) (t .count)
-      (λ k h. omega (arith, good-at (t .count) (recordAt (t .records)) (known .records) k h .priority .1, known .count .1))
+-- eight zeros can be gone on from
+pub start-allowed : (ps : List ℕ) → startsIn ps (replicate 8 0) ≡ true
+unfolding allZero
+start-allowed ps = refl
 
-  -- such a choice has eight entries, each with room in four bits
-  pub passing-eight : {c : List ℕ} → In c (chosen test t) → (length c ≡ 8) × small c
-  unfolding small
-  passing-eight {c} member =
-      let allowed = passing-allowed test t member in
-      (allowed-length (prioritiesOf t) c allowed ∙ length-priorities t, λ k. omega (arith, entry-within (prioritiesOf t) c allowed k, priority-within k))
-
-  -- before the first choice stands every one
-  pub from-start : afterOf (replicate 8 0) (chosen test t) ≡ chosen test t
-  unfolding chosen allZero
-  from-start = zero-before-sift (prioritiesOf t) (replicate 8 0) (testWith test t) (first-priority t good) refl (sym (length-priorities t))
-
-  pub start-allowed : starts t (replicate 8 0) ≡ true
-  unfolding allZero
-  start-allowed = refl
-
-  -- the first such choice after another: it can be gone on from, its entries have room in four bits, and the rest comes after it
+module _ (ps : List ℕ) (list : List (List ℕ)) where
+  -- the first choice of a list after another: it can be gone on from, its eight entries have room in four bits, and the rest comes after it
   pub record Next (c : List ℕ) (rest : List (List ℕ)) : Type 0 where
-    pub going-on : starts t c ≡ true
-    pub after : afterOf c (chosen test t) ≡ rest
+    pub eight : length c ≡ 8
+    pub going-on : startsIn ps c ≡ true
+    pub after : afterOf c list ≡ rest
     pub narrow : small c
 
-  pub next-listed : (w c : List ℕ) (rest : List (List ℕ)) → afterOf w (chosen test t) ≡ c ∷ rest → Next c rest
-  unfolding afterOf
-  next-listed w c rest e =
-      let member : In c (chosen test t) = sift-members (before w) (chosen test t) .0 (subst (In c) (sym e) (here refl)) .0 in
-      let allowed = passing-allowed test t member in
-      record {
-        going-on = ap (λ (b : Bool). allZero c || b) allowed ∙ or-true (allZero c);
-        after = after-first w c rest (passing-ascending test t) e;
-        narrow = passing-eight member .1;
-      }
-
-  -- a turn of going through the list: the choice found after the first n is the one at place n
+  -- a turn of going through it: the choice found after the first n is the one at place n
   pub record Turn (n : ℕ) (c : List ℕ) : Type 0 where
-    pub below : n < length (chosen test t)
-    pub same : c ≡ getD (chosen test t) n []
-    pub after : afterOf c (chosen test t) ≡ drop (n + 1) (chosen test t)
-    pub going-on : starts t c ≡ true
+    pub below : n < length list
+    pub same : c ≡ getD list n []
+    pub after : afterOf c list ≡ drop (n + 1) list
+    pub eight : length c ≡ 8
+    pub going-on : startsIn ps c ≡ true
     pub narrow : small c
 
-  pub turn-listed : (w c : List ℕ) (rest : List (List ℕ)) (n : ℕ) → afterOf w (chosen test t) ≡ drop n (chosen test t) → afterOf w (chosen test t) ≡ c ∷ rest → Turn n c
-  turn-listed w c rest n from found =
-      let next = next-listed w c rest found in
-      let some : length (drop n (chosen test t)) ≡ suc (length rest) = ap length (sym from ∙ found) in
-      let below : n < length (chosen test t) = omega (arith, length-drop n (chosen test t)) in
-      let cut = drop-cons (chosen test t) n [] below in
-      let head : c ≡ getD (chosen test t) n [] = cc in
-      let tail : rest ≡ drop (suc n) (chosen test t) = cc in
-      record { below = below; same = head; after = next .after ∙ tail ∙ ap (λ (k : ℕ). drop k (chosen test t)) (sym (add-one n)); going-on = next .going-on; narrow = next .narrow }
+module _ (ps : List ℕ) (test : List ℕ → Bool) where
+  -- the choices of some priorities for which a test holds
+  abbrev listed : List (List ℕ)
+  listed = sift test (choicesOf ps)
 
--- what is found in a list is its first, and nothing only in an empty one
-pub found-there : (w : List ℕ) (l : List (List ℕ)) (f : Later) → f ≡ foundIn w l → f .«is_there» ≡ true → l ≡ f .choice ∷ drop 1 l
-unfolding foundIn
-found-there w [] f e h = absurd (true≢false (sym h ∙ ap (λ (g : Later). g .«is_there») e))
-found-there w (c ∷ l) f e h = ap (λ (x : List ℕ). x ∷ l) (sym (ap (λ (g : Later). g .choice) e))
+  -- each is allowed
+  listed-allowed : {c : List ℕ} → In c listed → allAllowed ps c ≡ true
+  listed-allowed m = choices-sound ps (sift-members test (choicesOf ps) .0 m .0)
 
-pub found-none : (w : List ℕ) (l : List (List ℕ)) (f : Later) → f ≡ foundIn w l → f .«is_there» ≡ false → l ≡ []
-unfolding foundIn
-found-none w [] f e h = refl
-found-none w (c ∷ l) f e h = absurd (true≢false (sym (ap (λ (g : Later). g .«is_there») e) ∙ h))
+  module _ (levels : Levels ps) where
+    -- such a choice has eight entries, each with room in four bits
+    pub listed-small : {c : List ℕ} → In c listed → (length c ≡ 8) × small c
+    unfolding small
+    listed-small {c} member =
+        let allowed = listed-allowed member in
+        (allowed-length ps c allowed ∙ levels .eight, λ k. omega (arith, entry-within ps c allowed k, levels .few k))
+
+    -- before the first choice stands every one
+    pub from-zero : afterOf (replicate 8 0) listed ≡ listed
+    unfolding allZero
+    from-zero = zero-before-sift ps (replicate 8 0) test (levels .first) refl (sym (levels .eight))
+
+    pub next-sifted : (w c : List ℕ) (rest : List (List ℕ)) → afterOf w listed ≡ c ∷ rest → Next ps listed c rest
+    unfolding afterOf
+    next-sifted w c rest e =
+        let member : In c listed = sift-members (before w) listed .0 (subst (In c) (sym e) (here refl)) .0 in
+        record {
+          eight = listed-small member .0;
+          going-on = ap (λ (b : Bool). allZero c || b) (listed-allowed member) ∙ or-true (allZero c);
+          after = after-first w c rest (sift-ascending test (choices-ascending ps)) e;
+          narrow = listed-small member .1;
+        }
+
+    pub turn-sifted : (w c : List ℕ) (rest : List (List ℕ)) (n : ℕ) → afterOf w listed ≡ drop n listed → afterOf w listed ≡ c ∷ rest → Turn ps listed n c
+    turn-sifted w c rest n from found =
+        let next = next-sifted w c rest found in
+        let some : length (drop n listed) ≡ suc (length rest) = ap length (sym from ∙ found) in
+        let below : n < length listed = omega (arith, length-drop n listed) in
+        let cut = drop-cons listed n [] below in
+        let head : c ≡ getD listed n [] = cc in
+        let tail : rest ≡ drop (suc n) listed = cc in
+        record { below = below; same = head; after = next .after ∙ tail ∙ ap (λ (k : ℕ). drop k listed) (sym (add-one n)); eight = next .eight; going-on = next .going-on; narrow = next .narrow }
+
+-- The same of the choices of a table
+pub passing-ascending : (test : Tasks → Bool) (t : Table) → Ascending (chosen test t)
+unfolding chosen
+passing-ascending test t = sift-ascending (testWith test t) (choices-ascending (prioritiesOf t))
+
+module _ (test : Tasks → Bool) (t : Table) (good : tableRefusal t ≡ 0) where
+  -- a choice for which the test holds has eight entries, each with room in four bits
+  pub passing-eight : {c : List ℕ} → In c (chosen test t) → (length c ≡ 8) × small c
+  unfolding chosen
+  passing-eight member = listed-small (prioritiesOf t) (testWith test t) (table-levels t good) member
+
+  pub from-start : afterOf (replicate 8 0) (chosen test t) ≡ chosen test t
+  unfolding chosen
+  from-start = from-zero (prioritiesOf t) (testWith test t) (table-levels t good)
+
+  pub next-listed : (w c : List ℕ) (rest : List (List ℕ)) → afterOf w (chosen test t) ≡ c ∷ rest → Next (prioritiesOf t) (chosen test t) c rest
+  unfolding chosen
+  next-listed = next-sifted (prioritiesOf t) (testWith test t) (table-levels t good)
 
 -- the refusals of a list, after one that comes first
 module _ (refusal : ℕ) (list : List (List ℕ)) (out : List ℕ) where

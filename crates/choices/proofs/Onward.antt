@@ -2,7 +2,7 @@
 -- Assumes nothing.
 use Prim.Native.Nat.{ℕ, zero, suc, _+_, _-_, _≤_, _<_}
 use mathlib.Core.Path.{_≡_, refl, sym, ap, ap₂, _∙_, fun-ext}
-use mathlib.Core.Bool.{Bool, true, false, cond, _||_, false≢true}
+use mathlib.Core.Bool.{Bool, true, false, cond, _||_, or-true, false≢true}
 use mathlib.Core.List.{List, [], _∷_, _++_, map}
 use mathlib.Core.Logic.{_⊎_, inl, inr}
 use native.Mathlib.Nat.{eq-or-lt-of-le, le-refl}
@@ -13,7 +13,6 @@ use lib.ListN.{length, getD}
 use Rattle.places.proofs.Tells.{true-both, both-true}
 use Rattle.analysis.specs.Common.Allowed.{isAllowed, allAllowed}
 use Rattle.analysis.proofs.Laws.Common.Choice.{allowed-length}
-use Rattle.choices.specs.declared.Later.{Later}
 use Rattle.choices.specs.Choices.{inRow, entriesFor, spread, choicesOf, sift}
 use Rattle.choices.specs.Order.{before, allZero, afterOf}
 use Rattle.choices.specs.Stepping.{firstFor, Carried, carried, nextOf}
@@ -136,8 +135,12 @@ carries (p ∷ ps) (q ∷ qs) e =
     let both = both-true (isAllowed p q) (allAllowed ps qs) e in
     carry-entry p q ps qs (both .0) (carries ps qs (both .1))
 
--- the next after the start, or after an allowed choice, is allowed
-pub next-allowed : (ps c : List ℕ) → (allZero c || allAllowed ps c) ≡ true → allAllowed ps (nextOf ps c .choice) ≡ true
+-- the start, or an allowed choice
+abbrev pub startsIn : List ℕ → List ℕ → Bool
+startsIn ps c = allZero c || allAllowed ps c
+
+-- the next after either is allowed
+pub next-allowed : (ps c : List ℕ) → startsIn ps c ≡ true → allAllowed ps (nextOf ps c .entries) ≡ true
 unfolding nextOf
 next-allowed ps c = go (allZero c)
   where
@@ -145,13 +148,17 @@ next-allowed ps c = go (allZero c)
     kept (rises good e) = good
     kept (ends e) = first-allowed ps
 
-    go : (zeros : Bool) → (zeros || allAllowed ps c) ≡ true → allAllowed ps (cond {A = Later} zeros (record { «is_there» = true; choice = map firstFor ps }) (record { «is_there» = carried ps c .rose; choice = carried ps c .entries }) .choice) ≡ true
+    go : (zeros : Bool) → (zeros || allAllowed ps c) ≡ true → allAllowed ps (cond {A = Carried} zeros (record { rose = true; entries = map firstFor ps }) (carried ps c) .entries) ≡ true
     go true start = first-allowed ps
     go false start = kept (carries ps c start)
 
+-- so that one can go on from it
+pub still-starts : (ps c : List ℕ) → startsIn ps c ≡ true → startsIn ps (nextOf ps c .entries) ≡ true
+still-starts ps c start = rw (next-allowed ps c start) (or-true (allZero (nextOf ps c .entries)))
+
 -- and has an entry for each record
-pub next-length : (ps c : List ℕ) → (allZero c || allAllowed ps c) ≡ true → length (nextOf ps c .choice) ≡ length ps
-next-length ps c start = allowed-length ps (nextOf ps c .choice) (next-allowed ps c start)
+pub next-length : (ps c : List ℕ) → startsIn ps c ≡ true → length (nextOf ps c .entries) ≡ length ps
+next-length ps c start = allowed-length ps (nextOf ps c .entries) (next-allowed ps c start)
 
 -- the start comes before every choice of a table whose first record is there
 pub zero-before-all : (ps c : List ℕ) → 1 ≤ getD ps 0 0 → allZero c ≡ true → length c ≡ length ps → afterOf c (choicesOf ps) ≡ choicesOf ps
@@ -167,20 +174,19 @@ zero-before-all (suc p ∷ ps) (q ∷ qs) some zeros same =
 pub zero-before-sift : (ps c : List ℕ) (test : List ℕ → Bool) → 1 ≤ getD ps 0 0 → allZero c ≡ true → length c ≡ length ps → afterOf c (sift test (choicesOf ps)) ≡ sift test (choicesOf ps)
 zero-before-sift ps c test some zeros same = sift-sift-commute c test (choicesOf ps) ∙ ap (sift test) (zero-before-all ps c some zeros same)
 
--- a choice found and those after it, or none
-abbrev pub onward : List ℕ → Later → List (List ℕ)
-onward ps f = cond (f .«is_there») (f .choice ∷ afterOf (f .choice) (choicesOf ps)) []
+-- a choice that the carry rose to and those after it, or none
+abbrev pub onward : List ℕ → Carried → List (List ℕ)
+onward ps r = cond (r .rose) (r .entries ∷ afterOf (r .entries) (choicesOf ps)) []
 
 -- what comes after the start, or after an allowed choice, is the next one and what comes after that
-pub after-next : (ps c : List ℕ) → 1 ≤ getD ps 0 0 → length c ≡ length ps → (allZero c || allAllowed ps c) ≡ true → afterOf c (choicesOf ps) ≡ onward ps (nextOf ps c)
+pub after-next : (ps c : List ℕ) → 1 ≤ getD ps 0 0 → length c ≡ length ps → startsIn ps c ≡ true → afterOf c (choicesOf ps) ≡ onward ps (nextOf ps c)
 unfolding nextOf
 after-next ps c some same = go (allZero c) refl
   where
-    stepped : {r : Carried} → Carries ps c r → afterOf c (choicesOf ps) ≡ onward ps (record { «is_there» = r .rose; choice = r .entries })
+    stepped : {r : Carried} → Carries ps c r → afterOf c (choicesOf ps) ≡ onward ps r
     stepped (rises good e) = e
     stepped (ends e) = e
 
-    go : (zeros : Bool) → allZero c ≡ zeros → (zeros || allAllowed ps c) ≡ true
-        → afterOf c (choicesOf ps) ≡ onward ps (cond zeros (record { «is_there» = true; choice = map firstFor ps }) (record { «is_there» = carried ps c .rose; choice = carried ps c .entries }))
+    go : (zeros : Bool) → allZero c ≡ zeros → (zeros || allAllowed ps c) ≡ true → afterOf c (choicesOf ps) ≡ onward ps (cond zeros (record { rose = true; entries = map firstFor ps }) (carried ps c))
     go true zeros start = zero-before-all ps c some zeros same ∙ choices-first ps
     go false zeros start = stepped (carries ps c start)

@@ -1,6 +1,6 @@
 -- What a sift keeps: it commutes with another sift, and goes through a join and a map. Assumes nothing.
 use Prim.Native.Nat.{ℕ, suc, _≤_, suc-le-suc}
-use mathlib.Core.Path.{_≡_, refl, sym, ap, _∙_}
+use mathlib.Core.Path.{_≡_, refl, sym, ap, ap₂, _∙_}
 use mathlib.Core.Bool.{Bool, true, false, cond}
 use mathlib.Core.List.{List, [], _∷_, _++_, map, List·Memᴰ as In, List·Memᴰ·head as here, List·Memᴰ·tail as there}
 use native.Mathlib.Omega.{arith}
@@ -40,6 +40,12 @@ module _ {A : Type 0} where
   unfolding sift
   sift-none test [] none = refl
   sift-none test (a ∷ l) none = rw (none a (here refl)) (sift-none test l (λ b m. none b (there m)))
+
+  -- two tests that agree on every member keep the same
+  pub sift-same : (test other : A → Bool) (l : List A) → ((a : A) → In a l → test a ≡ other a) → sift test l ≡ sift other l
+  unfolding sift
+  sift-same test other [] same = refl
+  sift-same test other (a ∷ l) same = ap₂ (λ (b : Bool) (r : List A). cond b (a ∷ r) r) (same a (here refl)) (sift-same test other l (λ b m. same b (there m)))
 
   -- a join is sifted part by part
   pub sift-join : (test : A → Bool) (k l : List A) → sift test (k ++ l) ≡ sift test k ++ sift test l

@@ -1,14 +1,15 @@
 -- Tests and carries over whole choices, place by place, as loops go through them. Assumes nothing.
 use Prim.Native.Nat.{ℕ, zero, suc, _+_, _≤_, _<_}
-use mathlib.Core.Path.{_≡_, ap, ap₂, _∙_}
+use mathlib.Core.Path.{_≡_, refl, sym, ap, ap₂, _∙_}
 use mathlib.Core.Bool.{true, false, cond, _&&_}
 use mathlib.Core.List.{List, [], _∷_, _++_, map}
 use native.Mathlib.Nat.{not-suc-le-zero, le-of-suc-le-suc}
 use native.Mathlib.Omega.{arith}
 use lib.Dec.{eqb, ltb}
 use lib.ListN.{length, getD, take, drop, replicate}
-use lib.Seq.{take-all}
+use lib.Seq.{take-all, ext-getD}
 use Rattle.places.specs.Places.{filledBelow}
+use Rattle.places.proofs.Filled.{length-filled, filled-at}
 use Rattle.sheet.proofs.Spelled.{spelled-take}
 use Rattle.analysis.proofs.Laws.Common.Choice.{rest-at}
 use Rattle.choices.specs.Order.{allZero}
@@ -18,10 +19,18 @@ pub zero-at : (l : List ℕ) (k : ℕ) → k < length l → allZero (drop k l) �
 unfolding allZero
 zero-at l k h = ap allZero (rest-at l k h)
 
+-- a room that is filled whole is what it is filled with, whatever stood in it
+filled-whole : (value : ℕ → ℕ) (n : ℕ) (room other : List ℕ) → length room ≡ n → length other ≡ n → filledBelow value n room ≡ filledBelow value n other
+filled-whole value n room other e f =
+    ext-getD 0 _ _ (length-filled value n room ∙ e ∙ sym f ∙ sym (length-filled value n other))
+    (λ k low.
+    let below : k < n = omega (arith, length-filled value n room) in
+    filled-at value n room 0 (omega arith) k below ∙ sym (filled-at value n other 0 (omega arith) k below))
+
 -- eight places filled from a list of eight are the list's images
-pub filled-map : (f : ℕ → ℕ) (l : List ℕ) → length l ≡ 8 → filledBelow (λ k. f (getD l k 0)) 8 (replicate 8 0) ≡ map f l
+pub filled-map : (f : ℕ → ℕ) (l room : List ℕ) → length l ≡ 8 → length room ≡ 8 → filledBelow (λ k. f (getD l k 0)) 8 room ≡ map f l
 unfolding filledBelow
-filled-map f l e = ap (map f) (spelled-take 8 l 0 (omega arith) ∙ take-all 8 l (omega arith))
+filled-map f l room e eight = filled-whole (λ k. f (getD l k 0)) 8 room (replicate 8 0) eight refl ∙ ap (map f) (spelled-take 8 l 0 (omega arith) ∙ take-all 8 l (omega arith))
 
 -- a carry at a place: where none rose after it, the entry there rises, or goes back to its first
 pub carried-at : (ps qs : List ℕ) (k : ℕ) → k < length ps → k < length qs → carried (drop (k + 1) ps) (drop (k + 1) qs) .rose ≡ false

@@ -1,6 +1,5 @@
--- What a reader of the crate's promises must believe, in the order of document 01; Stepping and Lowest are inner devices that no public promise cites.
+-- What a reader of the crate's promises must believe, in the order of document 01; Stepping is an inner device that no public promise cites.
 pub mod Choices
 pub mod Order
 pub mod Answers
 pub mod Stepping
-pub mod Lowest

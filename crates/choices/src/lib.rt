@@ -5,7 +5,6 @@ use analysis::Rule;
 use sheet::Table;
 
 mod lister;
-mod lowest;
 mod odometer;
 
 // Where a walk stands: one fault priority for each record, all zero before the first choice.
@@ -32,12 +31,6 @@ pub struct Listing {
     pub entries: usize,
 }
 
-// A choice found, or that there is none.
-pub struct Later {
-    pub is_there: bool,
-    pub choice: [u8; 8],
-}
-
 impl Walk {
     // The walk before the first choice.
     pub fn start() -> Walk
@@ -50,23 +43,15 @@ impl Walk {
     pub fn step_by(self, table: Table, rule: Rule) -> Stepped
         ensures { λ r. ⌜ r ≡ stepBy rule table self ⌝ }
     {
-        let entries = self.entries;
-        let refusal = odometer::judge_start(table, entries, rule);
-        if refusal != 0 {
+        let mut choice = self.entries;
+        let found = odometer::step(table, &mut choice, rule);
+        if found.refusal != 0 {
             return Stepped {
                 walk: Walk::start(),
-                arrival: Arrival::Refused(refusal),
+                arrival: Arrival::Refused(found.refusal),
             };
         }
-        if lowest::is_late(table) {
-            return Stepped {
-                walk: self,
-                arrival: Arrival::End,
-            };
-        }
-        let found = odometer::advance(table, odometer::no_bounds(), entries, rule);
-        if found.is_there {
-            let choice = found.choice;
+        if found.yes {
             return Stepped {
                 walk: Walk { entries: choice },
                 arrival: Arrival::Found,
@@ -91,31 +76,27 @@ pub fn list_by(table: Table, out: &mut [u8], rule: Rule) -> Listing
     ensures answer { λ r. ⌜ r ≡ listBy rule table (now (out .entry)) ⌝ }
     ensures left { λ _. ⌜ now (out .exit) ≡ leavesBy rule table (now (out .entry)) ⌝ }
 {
-    let refusal = analysis::judge_rule(table, rule);
-    if refusal != 0 {
-        return Listing {
-            refusal,
-            entries: 0,
-        };
-    }
-    if lowest::none_meets(table, rule) {
-        return Listing {
-            refusal: 0,
-            entries: 0,
-        };
-    }
     let bounds = analysis::bounds_of(table, rule);
-    if lister::fits(table, bounds, out.len() / 4, rule) {
-        let entries = lister::fill(table, bounds, out, rule);
+    if bounds.refusal != 0 {
         return Listing {
-            refusal: 0,
-            entries,
+            refusal: bounds.refusal,
+            entries: 0,
         };
     }
-    Listing {
-        refusal: 11,
-        entries: 0,
+    if bounds.count == 0 {
+        return Listing {
+            refusal: 0,
+            entries: 0,
+        };
     }
+    lister::put_list(
+        bounds.count,
+        &bounds.priorities,
+        &bounds.backups,
+        &bounds.limits,
+        out,
+        rule,
+    )
 }
 
 // Every passing choice, 4 bytes each, at the start of the output.

@@ -1,18 +1,15 @@
 // The whole list: whether it fits its room, which is found without walking past that room, and then its bytes.
 ghost use mathlib.Core.Path.{_≡_};
-ghost use mathlib.Core.List.{_++_};
 ghost use Prim.Native.Nat.{_+_, _*_, _≤_};
 ghost use lib.Dec.{leb};
-ghost use lib.ListN.{length, drop};
+ghost use lib.ListN.{length};
 ghost use lib.Seq.{sets};
-ghost use Rattle.analysis.specs.ByRule.{meets, ruleRefusal};
-ghost use Rattle.choices.specs.Choices.{chosen};
-ghost use Rattle.choices.specs.Answers.{entryBytes, bytesOf};
-ghost use Rattle.choices.specs.Stepping.{Knows, factorial, small};
+ghost use Rattle.analysis.specs.Bounds.Within.{boundsIn};
+ghost use Rattle.choices.specs.Answers.{entryBytes};
+ghost use Rattle.choices.specs.Stepping.{factorial, small, withinOf, Levels, Filled, Listed};
+use crate::Listing;
 use crate::odometer;
-use analysis::Bounds;
 use analysis::Rule;
-use sheet::Table;
 
 // How many choices so many records have: no list is longer.
 fn most(count: u8) -> usize
@@ -29,30 +26,32 @@ fn most(count: u8) -> usize
     choices
 }
 
-// Whether there are no more choices that meet a rule than the room has entries.
-pub fn fits(table: Table, bounds: Bounds, room: usize, rule: Rule) -> bool
-    requires judged { ⌜ ruleRefusal rule table ≡ 0 ⌝ }
-    requires known { ⌜ Knows rule table bounds ⌝ }
-    ensures { λ r. ⌜ r ≡ leb (length (chosen (meets rule) table)) room ⌝ }
+// Whether there are no more choices within bounds than the room has entries.
+fn fits<'a>(
+    count: u8,
+    priorities: &'a [u8; 8],
+    backups: &'a [u16; 8],
+    limits: &'a [u32; 72],
+    room: usize,
+    rule: Rule,
+) -> bool
+    requires few { ⌜ count ≤ 8 ⌝ }
+    requires levels { ⌜ Levels (now priorities) ⌝ }
+    requires most { ⌜ length (withinOf rule (boundsIn 0 count (now priorities) (now backups) (now limits))) ≤ factorial count ⌝ }
+    ensures { λ r. ⌜ r ≡ leb (length (withinOf rule (boundsIn 0 count (now (priorities .entry)) (now (backups .entry)) (now (limits .entry))))) room ⌝ }
 {
-    if most(table.count) <= room {
+    if most(count) <= room {
         return true;
     }
-    let mut walk = [0u8; 8];
+    let mut choice = [0u8; 8];
     let mut left = room;
-    loop {
-        let found = odometer::advance(table, bounds, walk, rule);
-        if found.is_there {
-            if left == 0 {
-                return false;
-            }
-            left -= 1;
-            let later = found.choice;
-            walk = later;
-        } else {
-            return true;
+    while odometer::go_on(count, priorities, backups, limits, &mut choice, rule) {
+        if left == 0 {
+            return false;
         }
+        left -= 1;
     }
+    true
 }
 
 // Puts one entry's four bytes, two records in each.
@@ -67,25 +66,51 @@ fn put_entry(out: &mut [u8], at: usize, choice: [u8; 8])
     out[at + 3] = choice[6] * 16 + choice[7];
 }
 
-// Puts every choice that meets a rule, and counts them.
-pub fn fill(table: Table, bounds: Bounds, out: &mut [u8], rule: Rule) -> usize
-    requires judged { ⌜ ruleRefusal rule table ≡ 0 ⌝ }
-    requires known { ⌜ Knows rule table bounds ⌝ }
-    requires room { ⌜ 4 * length (chosen (meets rule) table) ≤ length (now out) ⌝ }
-    ensures answer { λ r. ⌜ r ≡ length (chosen (meets rule) table) ⌝ }
-    ensures left { λ _. ⌜ now (out .exit) ≡ bytesOf (chosen (meets rule) table) ++ drop (4 * length (chosen (meets rule) table)) (now (out .entry)) ⌝ }
+// Puts every choice within bounds, and counts them.
+fn fill<'a>(
+    count: u8,
+    priorities: &'a [u8; 8],
+    backups: &'a [u16; 8],
+    limits: &'a [u32; 72],
+    out: &mut [u8],
+    rule: Rule,
+) -> usize
+    requires levels { ⌜ Levels (now priorities) ⌝ }
+    requires room { ⌜ 4 * length (withinOf rule (boundsIn 0 count (now priorities) (now backups) (now limits))) ≤ length (now out) ⌝ }
+    ensures { λ r. ⌜ Filled (withinOf rule (boundsIn 0 count (now (priorities .entry)) (now (backups .entry)) (now (limits .entry)))) (now (out .entry)) r (now (out .exit)) ⌝ }
 {
-    let mut walk = [0u8; 8];
+    let mut choice = [0u8; 8];
     let mut entries: usize = 0;
-    loop {
-        let found = odometer::advance(table, bounds, walk, rule);
-        if found.is_there {
-            let choice = found.choice;
-            put_entry(out, 4 * entries, choice);
-            entries += 1;
-            walk = choice;
-        } else {
-            return entries;
-        }
+    while odometer::go_on(count, priorities, backups, limits, &mut choice, rule) {
+        put_entry(out, 4 * entries, choice);
+        entries += 1;
+    }
+    entries
+}
+
+// Puts every choice within bounds where there is room for all, and else none: the refusal, 11 for too little room, beside how many are put.
+pub fn put_list<'a>(
+    count: u8,
+    priorities: &'a [u8; 8],
+    backups: &'a [u16; 8],
+    limits: &'a [u32; 72],
+    out: &mut [u8],
+    rule: Rule,
+) -> Listing
+    requires few { ⌜ count ≤ 8 ⌝ }
+    requires levels { ⌜ Levels (now priorities) ⌝ }
+    requires most { ⌜ length (withinOf rule (boundsIn 0 count (now priorities) (now backups) (now limits))) ≤ factorial count ⌝ }
+    ensures { λ r. ⌜ Listed (withinOf rule (boundsIn 0 count (now (priorities .entry)) (now (backups .entry)) (now (limits .entry)))) (now (out .entry)) r (now (out .exit)) ⌝ }
+{
+    if fits(count, priorities, backups, limits, out.len() / 4, rule) {
+        let entries = fill(count, priorities, backups, limits, out, rule);
+        return Listing {
+            refusal: 0,
+            entries,
+        };
+    }
+    Listing {
+        refusal: 11,
+        entries: 0,
     }
 }

@@ -1,43 +1,48 @@
-// From one choice to the next: whether a walk may go on after a start, the choice right after another, and the next one that meets a rule.
+// From one choice to the next: whether a walk may go on after a start, the choice right after another, and the next one that meets a rule. A choice is lent, and goes on in its place.
 ghost use mathlib.Core.Path.{_≡_};
 ghost use mathlib.Core.Bool.{true, _||_};
-ghost use Prim.Native.Nat.{_≤_};
-ghost use mathlib.Core.List.{[], map};
-ghost use Rattle.analysis.specs.Common.Tasks.{tasksOf};
+ghost use Prim.Native.Nat.{_≤_, _<_};
+ghost use lib.Dec.{ltb};
+ghost use mathlib.Core.List.{map};
+ghost use lib.ListN.{length};
+ghost use Rattle.places.specs.Refusals.{orElse};
 ghost use Rattle.analysis.specs.Common.Columns.{prioritiesOf};
 ghost use Rattle.analysis.specs.Common.Allowed.{allAllowed};
 ghost use Rattle.analysis.specs.ByRule.{meets, ruleRefusal};
 ghost use Rattle.choices.specs.Choices.{chosen};
 ghost use Rattle.choices.specs.Order.{allZero, afterOf};
 ghost use Rattle.choices.specs.Answers.{startRefusal};
-ghost use Rattle.choices.specs.Stepping.{Knows, firstFor, foundIn, nextOf};
-use crate::Later;
-use analysis::Bounds;
+ghost use Rattle.analysis.specs.Bounds.Within.{boundsIn};
+ghost use Rattle.choices.specs.Stepping.{firstFor, nextOf, withinOf, Levels, Arrived};
 use analysis::Rule;
+use analysis::Verdict;
 use sheet::Table;
 
-// How many choices are looked at by their times before bounds are found.
-const FEW: u8 = 2;
-
-// The priorities of a table's records, 0 past the count.
-fn priorities_of(table: Table) -> [u8; 8]
-    requires { ⌜ table .count ≤ 8 ⌝ }
-    ensures { λ r. ⌜ r ≡ prioritiesOf table ⌝ }
+// A count as far as there are places.
+fn few(count: u8) -> usize
+    ensures { λ r. ⌜ (r ≤ 8) × (count ≤ 8 → r ≡ count) ⌝ }
 {
-    let count = table.count as usize;
-    let records = table.records;
+    if count <= 8 { count as usize } else { 8 }
+}
+
+// The priorities of a table's records, 0 past the count, of any table that has no more than eight.
+fn priorities_of(table: Table) -> [u8; 8]
+    ensures { λ r. ⌜ (table .count ≤ 8 → r ≡ prioritiesOf table) ⌝ }
+{
+    let count = few(table.count);
     let mut priorities = [0u8; 8];
     let mut place: usize = 0;
     while place < count {
-        priorities[place] = records[place].priority;
+        priorities[place] = table.records[place].priority;
         place += 1;
     }
     priorities
 }
 
 // Whether no fault priority stands in it.
-fn all_zero(choice: [u8; 8]) -> bool
-    ensures { λ r. ⌜ r ≡ allZero choice ⌝ }
+fn all_zero(choice: &[u8; 8]) -> bool
+    requires { ⌜ length (now choice) ≡ 8 ⌝ }
+    ensures { λ r. ⌜ r ≡ allZero (now (choice .entry)) ⌝ }
 {
     let mut place: usize = 0;
     while place < 8 {
@@ -49,16 +54,6 @@ fn all_zero(choice: [u8; 8]) -> bool
     true
 }
 
-// The refusal under a rule of going on after a start, which is all zero or a choice: the table's, then 13.
-pub fn judge_start(table: Table, start: [u8; 8], rule: Rule) -> u8
-    ensures { λ r. ⌜ r ≡ startRefusal rule table start ⌝ }
-{
-    if all_zero(start) {
-        return analysis::judge_rule(table, rule);
-    }
-    analysis::judge_choice_by(table, start, rule)
-}
-
 // The first fault priority allowed for a record of the priority, 0 past the count.
 fn first_fault(priority: u8) -> u8
     ensures { λ r. ⌜ r ≡ firstFor priority ⌝ }
@@ -66,142 +61,159 @@ fn first_fault(priority: u8) -> u8
     if priority == 0 { 0 } else { 1 }
 }
 
-// The first choice.
-fn first_choice(priorities: [u8; 8]) -> [u8; 8]
-    ensures { λ r. ⌜ r ≡ map firstFor priorities ⌝ }
+// Whether every entry of a choice lies from the first to the priority.
+fn all_allowed<'a>(priorities: &'a [u8; 8], choice: &'a [u8; 8]) -> bool
+    requires whole { ⌜ length (now priorities) ≡ 8 ⌝ }
+    requires room { ⌜ length (now choice) ≡ 8 ⌝ }
+    ensures { λ r. ⌜ r ≡ allAllowed (now (priorities .entry)) (now (choice .entry)) ⌝ }
 {
-    let mut choice = [0u8; 8];
+    let mut place: usize = 0;
+    while place < 8 {
+        let entry = choice[place];
+        let priority = priorities[place];
+        if (entry < first_fault(priority)) | (priority < entry) {
+            return false;
+        }
+        place += 1;
+    }
+    true
+}
+
+// Whether a walk may go on after a choice: it is all zero, or allowed.
+fn may_start<'a>(priorities: &'a [u8; 8], choice: &'a [u8; 8]) -> bool
+    requires whole { ⌜ length (now priorities) ≡ 8 ⌝ }
+    requires room { ⌜ length (now choice) ≡ 8 ⌝ }
+    ensures { λ r. ⌜ r ≡ (allZero (now (choice .entry)) || allAllowed (now (priorities .entry)) (now (choice .entry))) ⌝ }
+{
+    if all_zero(choice) {
+        return true;
+    }
+    all_allowed(priorities, choice)
+}
+
+// The refusal under a rule of a start that is none: that of the table, then 13.
+fn judge_no_start(table: Table, rule: Rule) -> u8
+    ensures { λ r. ⌜ r ≡ orElse (ruleRefusal rule table) 13 ⌝ }
+{
+    let refusal = analysis::judge_rule(table, rule);
+    if refusal == 0 { 13 } else { refusal }
+}
+
+// Puts the first choice of the priorities.
+fn put_first(priorities: &[u8; 8], choice: &mut [u8; 8])
+    requires whole { ⌜ length (now priorities) ≡ 8 ⌝ }
+    requires room { ⌜ length (now choice) ≡ 8 ⌝ }
+    ensures { λ _. ⌜ now (choice .exit) ≡ map firstFor (now (priorities .entry)) ⌝ }
+{
     let mut place: usize = 0;
     while place < 8 {
         choice[place] = first_fault(priorities[place]);
         place += 1;
     }
-    choice
 }
 
-// The choice right after another.
-fn next(priorities: [u8; 8], choice: [u8; 8]) -> Later
-    ensures { λ r. ⌜ r ≡ nextOf priorities choice ⌝ }
+// Whether an entry can rise: it is below the priority, so that one more fits its byte.
+fn can_rise(entry: u8, priority: u8) -> bool
+    ensures same { λ r. ⌜ r ≡ ltb entry priority ⌝ }
+    ensures room { λ r. ⌜ (r ≡ true → entry < 255) ⌝ }
+{
+    entry < priority
+}
+
+// Puts the choice right after another in its place; whether there is one.
+fn next(priorities: &[u8; 8], choice: &mut [u8; 8]) -> bool
+    requires whole { ⌜ length (now priorities) ≡ 8 ⌝ }
+    requires room { ⌜ length (now choice) ≡ 8 ⌝ }
+    ensures answer { λ r. ⌜ r ≡ nextOf (now (priorities .entry)) (now (choice .entry)) .rose ⌝ }
+    ensures left { λ _. ⌜ now (choice .exit) ≡ nextOf (now (priorities .entry)) (now (choice .entry)) .entries ⌝ }
 {
     if all_zero(choice) {
-        let first = first_choice(priorities);
-        return Later {
-            is_there: true,
-            choice: first,
-        };
+        put_first(priorities, choice);
+        return true;
     }
-    let mut entries = choice;
     let mut place: usize = 8;
     while 0 < place {
         place -= 1;
-        if entries[place] < priorities[place] {
-            entries[place] += 1;
-            return Later {
-                is_there: true,
-                choice: entries,
-            };
+        if can_rise(choice[place], priorities[place]) {
+            choice[place] += 1;
+            return true;
         }
-        entries[place] = first_fault(priorities[place]);
+        choice[place] = first_fault(priorities[place]);
     }
-    Later {
-        is_there: false,
-        choice: entries,
-    }
+    false
 }
 
-// No bounds.
-pub fn no_bounds() -> Bounds
-    ensures { λ r. ⌜ r .count ≡ 0 ⌝ }
+// Goes on to the first choice after another that stays within bounds; whether there is one.
+pub fn go_on<'a>(
+    count: u8,
+    priorities: &'a [u8; 8],
+    backups: &'a [u16; 8],
+    limits: &'a [u32; 72],
+    choice: &mut [u8; 8],
+    rule: Rule,
+) -> bool
+    requires levels { ⌜ Levels (now priorities) ⌝ }
+    requires room { ⌜ length (now choice) ≡ 8 ⌝ }
+    requires allowed { ⌜ (allZero (now choice) || allAllowed (now priorities) (now choice)) ≡ true ⌝ }
+    ensures { λ r. ⌜ Arrived (afterOf (now (choice .entry)) (withinOf rule (boundsIn 0 count (now (priorities .entry)) (now (backups .entry)) (now (limits .entry))))) r (now (choice .exit)) ⌝ }
 {
-    Bounds {
-        refusal: 0,
-        count: 0,
-        priorities: [0u8; 8],
-        backups: [0u16; 8],
-        limits: [0u32; 72],
-    }
-}
-
-// Whether a choice meets a rule: by the bounds where they are known, else by its times.
-fn meets(table: Table, bounds: Bounds, choice: [u8; 8], rule: Rule) -> bool
-    requires judged { ⌜ ruleRefusal rule table ≡ 0 ⌝ }
-    requires known { ⌜ Knows rule table bounds ⌝ }
-    requires allowed { ⌜ allAllowed (prioritiesOf table) choice ≡ true ⌝ }
-    ensures { λ r. ⌜ r ≡ meets rule (tasksOf table (table .interval) choice) ⌝ }
-{
-    if bounds.count != 0 {
-        return analysis::meets_within(bounds, choice, rule).yes;
-    }
-    analysis::assess_choice_by(table, choice, rule).passes
-}
-
-// One less, down to 0.
-fn one_less(left: u8) -> u8 {
-    if left == 0 { 0 } else { left - 1 }
-}
-
-// Whether no choice meets because of some record's own backup, asked where no bounds are known and no choice is left that is to be looked at without.
-fn ends(table: Table, bounds: Bounds, left: u8, rule: Rule) -> bool
-    requires { ⌜ ruleRefusal rule table ≡ 0 ⌝ }
-    ensures { λ r. ⌜ (r ≡ true → chosen (meets rule) table ≡ []) ⌝ }
-{
-    if left == 0 {
-        if bounds.count == 0 {
-            return analysis::is_hopeless(table).yes;
+    while next(priorities, choice) {
+        if analysis::meets_lent(0, count, priorities, backups, limits, choice, rule).yes {
+            return true;
         }
     }
     false
 }
 
-// The bounds as they are known, or found where none are and no choice is left that is to be looked at without.
-fn sought(table: Table, bounds: Bounds, left: u8, rule: Rule) -> Bounds
-    requires { ⌜ Knows rule table bounds ⌝ }
-    ensures { λ r. ⌜ Knows rule table r ⌝ }
+// Goes on to the first choice after another that meets a rule; whether there is one. The bounds, which have no record where no choice meets the rule, are found for it.
+fn advance(table: Table, choice: &mut [u8; 8], rule: Rule) -> bool
+    requires judged { ⌜ ruleRefusal rule table ≡ 0 ⌝ }
+    requires room { ⌜ length (now choice) ≡ 8 ⌝ }
+    requires allowed { ⌜ (allZero (now choice) || allAllowed (prioritiesOf table) (now choice)) ≡ true ⌝ }
+    ensures { λ r. ⌜ Arrived (afterOf (now (choice .entry)) (chosen (meets rule) table)) r (now (choice .exit)) ⌝ }
 {
-    if left == 0 {
-        if bounds.count == 0 {
-            return analysis::bounds_of(table, rule);
-        }
+    let bounds = analysis::bounds_of(table, rule);
+    if bounds.count == 0 {
+        return false;
     }
-    bounds
+    go_on(
+        bounds.count,
+        &bounds.priorities,
+        &bounds.backups,
+        &bounds.limits,
+        choice,
+        rule,
+    )
 }
 
-// The first choice after a start that meets a rule. Where no bounds are known a few choices are looked at by their times first, so that one found at once does not pay for bounds.
-pub fn advance(table: Table, bounds: Bounds, start: [u8; 8], rule: Rule) -> Later
-    requires judged { ⌜ ruleRefusal rule table ≡ 0 ⌝ }
-    requires allowed { ⌜ (allZero start || allAllowed (prioritiesOf table) start) ≡ true ⌝ }
-    requires known { ⌜ Knows rule table bounds ⌝ }
-    ensures { λ r. ⌜ r ≡ foundIn start (afterOf start (chosen (meets rule) table)) ⌝ }
+// Goes on from a start to the first choice after it that meets a rule: the refusal, or 0 beside whether there is one. The choice right after the start is looked at first, from the lowest task up,
+// which judges the table as well; one found at once does not pay for bounds.
+pub fn step(table: Table, choice: &mut [u8; 8], rule: Rule) -> Verdict
+    requires room { ⌜ length (now choice) ≡ 8 ⌝ }
+    ensures refused { λ r. ⌜ r .refusal ≡ startRefusal rule table (now (choice .entry)) ⌝ }
+    ensures found { λ r. ⌜ (r .refusal ≡ 0 → Arrived (afterOf (now (choice .entry)) (chosen (meets rule) table)) (r .yes) (now (choice .exit))) ⌝ }
 {
     let priorities = priorities_of(table);
-    let mut known = bounds;
-    let mut left: u8 = FEW;
-    let mut choice = start;
-    loop {
-        let found = next(priorities, choice);
-        if found.is_there {
-            let later = found.choice;
-            choice = later;
-            if meets(table, known, choice, rule) {
-                return Later {
-                    is_there: true,
-                    choice,
-                };
-            }
-            left = one_less(left);
-            if ends(table, known, left, rule) {
-                return Later {
-                    is_there: false,
-                    choice: start,
-                };
-            }
-            let better = sought(table, known, left, rule);
-            known = better;
-        } else {
-            return Later {
-                is_there: false,
-                choice: start,
-            };
-        }
+    if !may_start(&priorities, choice) {
+        return Verdict {
+            refusal: judge_no_start(table, rule),
+            yes: false,
+        };
     }
+    let is_left = next(&priorities, choice);
+    let first = analysis::meets_choice(table, *choice, rule);
+    if first.refusal != 0 {
+        return first;
+    }
+    if !is_left {
+        return Verdict {
+            refusal: 0,
+            yes: false,
+        };
+    }
+    if first.yes {
+        return first;
+    }
+    let yes = advance(table, choice, rule);
+    Verdict { refusal: 0, yes }
 }

@@ -8,14 +8,14 @@ use native.Mathlib.Decide.{ℕ-discrete}
 use native.Mathlib.Nat.{suc-ne-zero}
 use native.Mathlib.Omega.{arith}
 use borrow.Author.Tests.{ne-eqb}
-use lib.Dec.{eqb}
+use lib.Dec.{eqb, ltb}
 use lib.IntN.{ℤ}
 use mir.Val.{boolByte}
 use Rattle.places.specs.Refusals.{orElse}
 use Rattle.places.proofs.Refusals.{first-of, next-of, none-of}
 use Rattle.sheet.specs.declared.Reading.{Reading}
 use Rattle.sheet.specs.declared.Table.{Table}
-use Rattle.sheet.specs.Layout.{editionOf, startOf, tableOf, noTable}
+use Rattle.sheet.specs.Layout.{countOf, editionOf, startOf, tableOf, noTable}
 use Rattle.sheet.specs.Rules.{sheetRefusal, tableRefusal}
 use Rattle.sheet.specs.Answers.{readAnswer, placeRefusal, partStart}
 use Rattle.sheet.proofs.Cases.{good-place, good-table}
@@ -23,12 +23,15 @@ use Rattle.sheet.proofs.Demands.{read-good, table-good}
 use Rattle.analysis.specs.declared.Entry.{Entry}
 use Rattle.analysis.specs.declared.Timed.{Timed}
 use Rattle.analysis.specs.declared.Assessment.{Assessment}
+use Rattle.analysis.specs.declared.Rule.the-variants.{Published}
 use Rattle.analysis.specs.declared.Interval.{Interval}
 use Rattle.analysis.specs.Published.Response.{passes}
 use Rattle.analysis.specs.Common.Entries.{ownTasks, assessed}
-use Rattle.analysis.specs.Published.Answers.{entryOf, timedRefusal, timedAnswer, choiceAssessment, ownAssessment, leastInterval, leastOf, intervalAnswer}
+use Rattle.analysis.specs.Published.Answers.{entryOf, leastInterval, leastOf, intervalAnswer}
+use Rattle.analysis.specs.ByRule.{ruleRefusal, meets, placeRefusal as askedRefusal, timeBy, entryBy, choiceAssessmentBy, ownAssessmentBy}
+use Rattle.analysis.specs.BySheet.{sheetPlaceRefusal, timedIn, assessedIn}
+use Rattle.analysis.proofs.Laws.ByRule.{own-judged}
 use Rattle.fidhaqooban.specs.Numbers.{answerOf, timeOf}
-use Rattle.analysis.proofs.Laws.Common.Choice.{own-refusal}
 use Rattle.fidhaqooban.specs.Answers.{responseNumber, verdictNumber, intervalAnswered, intervalNumber, recordNumber}
 
 -- a number that is not 0 is tested so
@@ -137,52 +140,8 @@ module _ (s : List ℕ) (reading : Reading) (e : reading ≡ readAnswer s) (left
   pub good-table-read : tableRefusal (tableOf s) ≡ 0
   good-table-read = table-good s (good-read s reading e left)
 
-  place-refused : (place : ℕ) → timedRefusal (tableOf s) place ≡ placeRefusal s place
-  unfolding timedRefusal placeRefusal tableOf
-  place-refused place = next-of _ good-table-read ∙ sym (next-of _ (good-read s reading e left))
-
-  -- the entry of a place that is not refused
-  module _ (place : ℕ) (timed : Timed) (given : timed ≡ timedAnswer (reading .table) place) where
-    pub timed-refused : timed .refusal ≡ placeRefusal s place
-    unfolding timedAnswer
-    timed-refused = ap (λ (t : Timed). t .refusal) given ∙ ap (λ (t : Table). timedRefusal t place) (table-read s reading e left) ∙ place-refused place
-
-    pub timed-entry : timed .refusal ≡ 0 → timed .entry ≡ entryOf (ownTasks (tableOf s)) place
-    unfolding timedAnswer
-    timed-entry fine =
-        ap (λ (t : Timed). t .entry) (given ∙ ap (λ (t : Table). timedAnswer t place) (table-read s reading e left))
-        ∙ simp (place-refused place ∙ sym timed-refused ∙ fine)
-
 -- the answers of a sheet that is read, refused or not
 module _ (s : List ℕ) (reading : Reading) (e : reading ≡ readAnswer s) where
-  module _ (place : ℕ) (timed : Timed) (given : timed ≡ timedAnswer (reading .table) place) where
-    pub place-asked : orElse (reading .refusal) (timed .refusal) ≡ placeRefusal s place
-    unfolding placeRefusal
-    place-asked = go (ℕ-discrete (reading .refusal) 0)
-      where
-        go : Dec (reading .refusal ≡ 0) → orElse (reading .refusal) (timed .refusal) ≡ placeRefusal s place
-        go (yes left) = next-of _ left ∙ timed-refused s reading e left place timed given
-        go (no taken) = first-of _ _ taken ∙ refusal-read s reading e ∙ sym (first-of (sheetRefusal s) _ (broken-read s reading e taken))
-
-    pub entry-asked : placeRefusal s place ≡ 0 → timed .entry ≡ entryOf (ownTasks (tableOf s)) place
-    entry-asked fine =
-        let none = none-of (reading .refusal) (timed .refusal) (place-asked ∙ fine) in
-        timed-entry s reading e (none .0) place timed given (none .1)
-
-    pub response-is : answerOf (orElse (reading .refusal) (timed .refusal)) (timeOf (timed .entry .outcome)) ≡ responseNumber s place
-    unfolding responseNumber
-    response-is =
-        ap (λ (r : ℕ). answerOf r (timeOf (timed .entry .outcome))) place-asked
-        ∙ answered (placeRefusal s place) _ _ (λ fine. ap (λ (x : Entry). timeOf (x .outcome)) (entry-asked fine))
-
-  pub verdict-is : (answer : Assessment) → answer ≡ ownAssessment (reading .table) → answerOf (orElse (reading .refusal) (answer .refusal)) (cond (answer .passes) 1 0) ≡ verdictNumber s
-  unfolding ownAssessment choiceAssessment assessed verdictNumber
-  verdict-is answer given =
-      asked (reading .refusal) _ _ _ (λ left.
-      ap (λ (a : Assessment). answerOf (a .refusal) (cond (a .passes) 1 0)) (given ∙ ap ownAssessment (table-read s reading e left))
-      ∙ simp (own-refusal (tableOf s), good-table-read s reading e left, good-read s reading e left))
-      (λ taken. sheet-refused s reading e taken _)
-
   pub interval-is : (interval : Interval) → interval ≡ intervalAnswer (reading .table) → intervalAnswered (reading .refusal) interval ≡ intervalNumber s
   unfolding intervalAnswer intervalNumber
   interval-is interval given =
@@ -191,3 +150,38 @@ module _ (s : List ℕ) (reading : Reading) (e : reading ≡ readAnswer s) where
       ap (λ (t : Table). answerOf (tableRefusal t) (leastInterval t)) (table-read s reading e left)
       ∙ ap (λ (r : ℕ). answerOf r (leastInterval (tableOf s))) (good-table-read s reading e left ∙ sym (good-read s reading e left)))
       (λ taken. sheet-refused s reading e taken _)
+
+-- the answers of a sheet that is asked for a place, or for its verdict, out of its bytes
+module _ (s : List ℕ) (place : ℕ) where
+  -- a good sheet asks nothing more of a place than that it is below the count
+  place-refused : sheetPlaceRefusal Published s place ≡ placeRefusal s place
+  unfolding sheetPlaceRefusal placeRefusal askedRefusal ruleRefusal tableOf
+  place-refused = go (ℕ-discrete (sheetRefusal s) 0)
+    where
+      go : Dec (sheetRefusal s ≡ 0)
+          → orElse (sheetRefusal s) (orElse (tableRefusal (tableOf s)) (cond (ltb place (tableOf s .count)) 0 12)) ≡ orElse (sheetRefusal s) (cond (ltb place (countOf s)) 0 12)
+      go (yes good) = next-of _ good ∙ next-of _ (table-good s good) ∙ sym (next-of _ good)
+      go (no broken) = first-of _ _ broken ∙ sym (first-of _ _ broken)
+
+  module _ (timed : Timed) (given : timed ≡ timedIn Published s place) where
+    pub place-asked : timed .refusal ≡ placeRefusal s place
+    unfolding timedIn
+    place-asked = ap (λ (t : Timed). t .refusal) given ∙ place-refused
+
+    pub entry-asked : placeRefusal s place ≡ 0 → timed .entry ≡ entryOf (ownTasks (tableOf s)) place
+    unfolding timedIn entryBy timeBy entryOf
+    entry-asked fine = ap (λ (t : Timed). t .entry) given ∙ simp (place-refused ∙ fine)
+
+    pub response-is : answerOf (timed .refusal) (timeOf (timed .entry .outcome)) ≡ responseNumber s place
+    unfolding responseNumber
+    response-is =
+        ap (λ (r : ℕ). answerOf r (timeOf (timed .entry .outcome))) place-asked
+        ∙ answered (placeRefusal s place) _ _ (λ fine. ap (λ (x : Entry). timeOf (x .outcome)) (entry-asked fine))
+
+pub verdict-is : (s : List ℕ) (answer : Assessment) → answer ≡ assessedIn Published s → answerOf (answer .refusal) (cond (answer .passes) 1 0) ≡ verdictNumber s
+unfolding assessedIn ownAssessmentBy choiceAssessmentBy assessed ruleRefusal meets verdictNumber
+verdict-is s answer given = ap (λ (a : Assessment). answerOf (a .refusal) (cond (a .passes) 1 0)) given ∙ go (ℕ-discrete (sheetRefusal s) 0)
+  where
+    go : Dec (sheetRefusal s ≡ 0) → answerOf (assessedIn Published s .refusal) (cond (assessedIn Published s .passes) 1 0) ≡ verdictNumber s
+    go (yes good) = simp (good, own-judged Published (tableOf s), table-good s good)
+    go (no broken) = simp (ne-eqb (sheetRefusal s) 0 broken) (answered (sheetRefusal s) _ _ (λ none. absurd (broken none)))

@@ -18,11 +18,13 @@ use Rattle.sheet.specs.Rules.{sheetRefusal}
 use Rattle.sheet.specs.Answers.{readAnswer}
 use Rattle.sheet.proofs.Cases.{good-table}
 use Rattle.analysis.specs.declared.Rule.{Rule}
-use Rattle.analysis.specs.ByRule.{meets, ruleRefusal}
+use Rattle.analysis.specs.declared.Rule.the-variants.{Assured}
+use Rattle.analysis.specs.declared.Timed.{Timed}
+use Rattle.analysis.specs.ByRule.{meets, ruleRefusal, placeRefusal as askedRefusal, timeBy, entryBy}
+use Rattle.analysis.specs.BySheet.{sheetPlaceRefusal, timedIn}
 use Rattle.analysis.proofs.Laws.ByRule.{rule-good}
-use Rattle.analysis.specs.Common.Entries.{ownTasks}
-use Rattle.assured.specs.declared.Timed.{Timed}
-use Rattle.assured.specs.Answers.{placeRefusal, entryOf, timeAnswer}
+use Rattle.analysis.specs.Common.Entries.{entryFrom, ownTasks}
+use Rattle.assured.specs.Answers.{assuredRefusal, placeRefusal, entryOf}
 use Rattle.choices.specs.declared.Walk.{Walk}
 use Rattle.choices.specs.declared.Arrival.{Arrival}
 use Rattle.choices.specs.declared.Arrival.the-variants.{Found, End, Refused}
@@ -130,13 +132,9 @@ module _ (rule : Rule) (s : List ℕ) (reading : Reading) (e : reading ≡ readA
             ∙ kept (ruleRefusal rule noTable) (chosen (meets rule) noTable) out (λ none. omega (arith, good-table noTable (rule-good rule noTable none) .count .0))
             ∙ simp (ne-eqb (sheetRefusal s) 0 (broken-read s reading e taken))
 
--- the assured time of a place
-pub assured-is : (s : List ℕ) (reading : Reading) → reading ≡ readAnswer s → (place : ℕ) (timed : Timed) → timed ≡ timeAnswer (reading .table) place
-    → answerOf (orElse (reading .refusal) (timed .refusal)) (timeOf (timed .entry .outcome)) ≡ assuredNumber s place
-unfolding timeAnswer assuredNumber
-assured-is s reading e place timed given =
-    asked (reading .refusal) _ _ _ (λ left.
-    ap (λ (x : Timed). answerOf (x .refusal) (timeOf (x .entry .outcome))) (given ∙ ap (λ (t : Table). timeAnswer t place) (table-read s reading e left))
-    ∙ answered (placeRefusal (tableOf s) place) _ (timeOf (entryOf (ownTasks (tableOf s)) place .outcome)) (λ fine. simp fine)
-    ∙ ap (λ (r : ℕ). answerOf r (timeOf (entryOf (ownTasks (tableOf s)) place .outcome))) (sym (next-of _ (good-read s reading e left))))
-    (λ taken. first-refused s reading e taken _ _)
+-- the assured time of a place, out of a sheet's bytes
+pub assured-is : (s : List ℕ) (place : ℕ) (timed : Timed) → timed ≡ timedIn Assured s place → answerOf (timed .refusal) (timeOf (timed .entry .outcome)) ≡ assuredNumber s place
+unfolding timedIn sheetPlaceRefusal askedRefusal ruleRefusal assuredNumber placeRefusal assuredRefusal entryBy timeBy entryFrom entryOf
+assured-is s place timed given =
+    ap (λ (t : Timed). answerOf (t .refusal) (timeOf (t .entry .outcome))) given
+    ∙ answered (sheetPlaceRefusal Assured s place) _ (timeOf (entryOf (ownTasks (tableOf s)) place .outcome)) (λ fine. simp fine)

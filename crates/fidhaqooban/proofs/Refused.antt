@@ -17,7 +17,7 @@ use Rattle.places.proofs.Joined.{run-at}
 use Rattle.places.proofs.Refusals.{next-of}
 use Rattle.sheet.specs.Layout.{headerSize, sizeOf, countOf, startOf, isWhole, editionFor, tableSize, tableOf}
 use Rattle.sheet.specs.Rules.{sheetRefusal}
-use Rattle.sheet.specs.Answers.{writeRefusal, placeRefusal}
+use Rattle.sheet.specs.Answers.{writeRefusal, rewriteRefusal, rewriteLeaves, placeRefusal}
 use Rattle.sheet.proofs.Order.{sheet-in-order}
 use Rattle.sheet.proofs.Demands.{table-good}
 use Rattle.sheet.proofs.Refused.{tried-last, given-if, write-refused-leaves}
@@ -38,7 +38,7 @@ use Rattle.fidhaqooban.specs.Numbers.{answerOf, tableFrom, givenTable, t
 use Rattle.replay.specs.Ticks.Machines.{machineOf}
 use Rattle.replay.specs.Logs.Shown.{matching}
 use Rattle.replay.specs.Logs.Answers.{replayAnswer, checkRefusal}
-use Rattle.fidhaqooban.specs.Answers.{writeSharedNumber, writeSharedLeft, writeNumber, rewriteRefusal, rewriteNumber, rewriteLeft, recordNumber, responseNumber, slackRefusal, slackNumber, slackLeft, verdictNumber, intervalNumber, firstNumber, nextRefusal, nextNumber, listingRefusal, listNumber, listLeft, replayedRefusal, replayNumber, replayLeft, checkNumber, mendingRefusal, mendNumber, mendLeft, mendListed, firstOut, coresRefusal, coresNumber, releaseNumber}
+use Rattle.fidhaqooban.specs.Answers.{writeSharedNumber, writeSharedLeft, writeNumber, rewriteNumber, rewriteLeft, recordNumber, responseNumber, slackRefusal, slackNumber, slackLeft, verdictNumber, intervalNumber, firstNumber, nextRefusal, nextNumber, listingRefusal, listNumber, listLeft, replayedRefusal, replayNumber, replayLeft, checkNumber, mendingRefusal, mendNumber, mendLeft, mendListed, firstOut, coresRefusal, coresNumber, releaseNumber}
 use Rattle.locks.specs.declared.Starts.{Starts}
 use Rattle.locks.specs.declared.Resource.{Resource}
 use Rattle.locks.specs.declared.Request.{Request}
@@ -100,7 +100,7 @@ module _ (sheet out : List ℕ) where
 
   -- refused, the output stays as it was; else it begins with the sheet, and the bytes after those are not touched
   pub rewrite-left : ((rewriteRefusal sheet out ≡ 0 → ⊥) → rewriteLeft sheet out ≡ out) × (rewriteRefusal sheet out ≡ 0 → rewriteLeft sheet out ≡ sheet ++ drop (length sheet) out)
-  unfolding rewriteLeft
+  unfolding rewriteLeft rewriteLeaves
   rewrite-left = (λ broken. simp (ne-eqb (rewriteRefusal sheet out) 0 broken), λ fine. simp (eq-eqb (rewriteRefusal sheet out) 0 fine))
 
 module _ (sheet : List ℕ) where

@@ -9,7 +9,7 @@ use Rattle.places.specs.Places.{filledBelow}
 use Rattle.places.specs.Refusals.{orElse}
 use Rattle.sheet.specs.Layout.{countOf, tableSize, startOf, tableOf}
 use Rattle.sheet.specs.Rules.{sheetRefusal}
-use Rattle.sheet.specs.Answers.{writeRefusal, writeLeaves, placeRefusal}
+use Rattle.sheet.specs.Answers.{writeRefusal, writeLeaves, rewriteRefusal, rewriteLeaves, placeRefusal}
 use Rattle.analysis.specs.Published.Response.{passes}
 use Rattle.analysis.specs.Published.Answers.{entryOf, leastInterval}
 use Rattle.analysis.specs.Common.Entries.{ownTasks}
@@ -49,17 +49,13 @@ writeNumber count interval = writeSharedNumber count interval 1 1
 unfoldable pub writeLeft : ℕ → ℕ → List ℕ → List ℕ → List ℕ
 writeLeft count interval = writeSharedLeft count interval 1 1
 
--- the refusal of `fq_rewrite`: the sheet's, then 11
-unfoldable pub rewriteRefusal : List ℕ → List ℕ → ℕ
-rewriteRefusal sheet out = orElse (sheetRefusal sheet) (cond (ltb (length out) (length sheet)) 11 0)
-
 -- `fq_rewrite`: "read, then write: bytes written"
 unfoldable pub rewriteNumber : List ℕ → List ℕ → ℤ
 rewriteNumber sheet out = answerOf (rewriteRefusal sheet out) (length sheet)
 
 -- what it leaves in the output: the same bytes and then those that were there, or all as it was
 unfoldable pub rewriteLeft : List ℕ → List ℕ → List ℕ
-rewriteLeft sheet out = cond (eqb (rewriteRefusal sheet out) 0) (sheet ++ drop (length sheet) out) out
+rewriteLeft sheet out = rewriteLeaves sheet out
 
 -- `fq_record`: "where the record's nine bytes start"
 unfoldable pub recordNumber : List ℕ → ℕ → ℤ

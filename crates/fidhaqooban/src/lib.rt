@@ -56,10 +56,8 @@ pub extern "C" fn fq_rewrite(sheet: &[u8], out: &mut [u8]) -> i64
     ensures answer { λ r. ⌜ r ≡ rewriteNumber (now (sheet .entry)) (now (out .entry)) ⌝ }
     ensures left { λ _. ⌜ now (out .exit) ≡ rewriteLeft (now (sheet .entry)) (now (out .entry)) ⌝ }
 {
-    let reading = sheet::read(sheet);
-    let rewriting = sheet::write(reading.table, out);
-    let refusal = answers::first(reading.refusal, rewriting.refusal);
-    answers::answer(refusal, rewriting.written)
+    let rewriting = sheet::rewrite(sheet, out);
+    answers::answer(rewriting.refusal, rewriting.written)
 }
 
 // Where the nine bytes of the record at a place start.
@@ -76,12 +74,10 @@ pub extern "C" fn fq_record(sheet: &[u8], place: usize) -> i64
 pub extern "C" fn fq_response(sheet: &[u8], place: usize) -> i64
     ensures { λ r. ⌜ r ≡ responseNumber (now (sheet .entry)) place ⌝ }
 {
-    let reading = sheet::read(sheet);
-    let timed = analysis::response_time(reading.table, place);
-    let refusal = answers::first(reading.refusal, timed.refusal);
+    let timed = analysis::time_in(sheet, place, Rule::Published);
     let entry = timed.entry;
     let outcome = entry.outcome;
-    answers::answer(refusal, answers::time_of(outcome))
+    answers::answer(timed.refusal, answers::time_of(outcome))
 }
 
 // Puts the slack of the record at a place, the deadline less the response time, into the output: 1, or 0 where there is no figure.
@@ -90,11 +86,9 @@ pub extern "C" fn fq_slack(sheet: &[u8], place: usize, out: &mut [i32]) -> i64
     ensures answer { λ r. ⌜ r ≡ slackNumber (now (sheet .entry)) place (now (out .entry)) ⌝ }
     ensures left { λ _. ⌜ now (out .exit) ≡ slackLeft (now (sheet .entry)) place (now (out .entry)) ⌝ }
 {
-    let reading = sheet::read(sheet);
-    let timed = analysis::response_time(reading.table, place);
-    let refusal = answers::first(reading.refusal, timed.refusal);
-    if refusal != 0 {
-        return answers::answer(refusal, 0);
+    let timed = analysis::time_in(sheet, place, Rule::Published);
+    if timed.refusal != 0 {
+        return answers::answer(timed.refusal, 0);
     }
     if out.len() == 0 {
         return answers::answer(11, 0);
@@ -109,10 +103,8 @@ pub extern "C" fn fq_slack(sheet: &[u8], place: usize, out: &mut [i32]) -> i64
 pub extern "C" fn fq_verdict(sheet: &[u8]) -> i64
     ensures { λ r. ⌜ r ≡ verdictNumber (now (sheet .entry)) ⌝ }
 {
-    let reading = sheet::read(sheet);
-    let assessment = analysis::assess(reading.table);
-    let refusal = answers::first(reading.refusal, assessment.refusal);
-    answers::answer(refusal, assessment.passes as usize)
+    let assessment = analysis::assess_in(sheet, Rule::Published);
+    answers::answer(assessment.refusal, assessment.passes as usize)
 }
 
 // Puts each record's response time, whether its slack has a figure, and the slack into the output: 1 where the sheet passes, 0 where it does not.
@@ -165,12 +157,10 @@ pub extern "C" fn fq_list(sheet: &[u8], out: &mut [u8]) -> i64
 pub extern "C" fn fq_assured_response(sheet: &[u8], place: usize) -> i64
     ensures { λ r. ⌜ r ≡ assuredNumber (now (sheet .entry)) place ⌝ }
 {
-    let reading = sheet::read(sheet);
-    let within = assured::assured_time(reading.table, place);
-    let refusal = answers::first(reading.refusal, within.refusal);
-    let entry = within.entry;
+    let timed = analysis::time_in(sheet, place, Rule::Assured);
+    let entry = timed.entry;
     let outcome = entry.outcome;
-    answers::answer(refusal, answers::time_of(outcome))
+    answers::answer(timed.refusal, answers::time_of(outcome))
 }
 
 // The next assured choice after another, 0 at the end.

@@ -2,8 +2,10 @@
 pub mod Binary
 pub mod Eight
 pub mod Struck
+pub mod Columns
 pub mod Chosen
 pub mod Ordered
 pub mod Ticked
 pub mod Ready
+pub mod Held
 pub mod Started

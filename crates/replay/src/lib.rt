@@ -5,10 +5,7 @@ ghost use mathlib.Core.Path.{_≡_};
 ghost use Rattle.replay.specs.Ticks.Machines.{countsOf};
 ghost use Rattle.replay.specs.Logs.Answers.{startAnswer, goOnAnswer, replayAnswer, checkAnswer};
 ghost use Rattle.replay.specs.Logs.Pieces.{beforeLog, beforeRecord, takenAnswer, replayedAnswer, checkedAnswer};
-use crate::logs::checking;
-use crate::logs::going;
 use crate::logs::pieces;
-use crate::logs::rules;
 use crate::ticks::counting;
 use crate::ticks::ticking;
 use sheet::Record;
@@ -122,7 +119,7 @@ impl Machine {
                 machine: ticking::no_machine(),
             };
         }
-        going::go_over(ticking::tied(self), part, 2)
+        pieces::log_over(ticking::tied(self), part)
     }
 
     // The seven counts of the ticks so far.
@@ -139,34 +136,14 @@ impl Machine {
 pub fn replay(sheet: &[u8], log: &[u8]) -> Replayed
     ensures { λ r. ⌜ r ≡ replayAnswer (now (sheet .entry)) (now (log .entry)) ⌝ }
 {
-    let started = Machine::start(sheet);
-    let refusal = started.refusal;
-    let machine = started.machine;
-    if refusal != 0 {
-        return Replayed {
-            refusal,
-            counts: machine.counts(),
-        };
-    }
-    let run = machine.go_on(log);
-    let last = run.machine;
-    Replayed {
-        refusal: run.refusal,
-        counts: last.counts(),
-    }
+    Following::log(sheet).take(log).replayed()
 }
 
 // Whether each tick of a supplier's record shows what ran.
 pub fn check(sheet: &[u8], supplied: &[u8]) -> Checked
     ensures { λ r. ⌜ r ≡ checkAnswer (now (sheet .entry)) (now (supplied .entry)) ⌝ }
 {
-    let started = Machine::start(sheet);
-    let refusal = started.refusal;
-    let machine = started.machine;
-    if refusal != 0 {
-        return Checked::Refused(refusal);
-    }
-    checking::check_record(machine, supplied)
+    Following::record(sheet).take(supplied).checked()
 }
 
 impl Following {

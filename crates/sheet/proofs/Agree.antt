@@ -34,3 +34,7 @@ module _ (n : ℕ) {at at′ : ℕ → Record} (same : Agree n at at′) where
 pub room-at : (at : ℕ → Record) (n : ℕ) → n ≤ 8 → Agree n (recordAt (room at n)) at
 unfolding room recordAt
 room-at at n few k h = filled-at at n (replicate 8 noRecord) noRecord few k h
+
+-- so the records in it are judged as those that it was filled with
+pub room-judged : (at : ℕ → Record) (n : ℕ) → n ≤ 8 → recordsRefusal n (recordAt (room at n)) ≡ recordsRefusal n at
+room-judged at n few = records-agree n (room-at at n few)

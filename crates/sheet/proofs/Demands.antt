@@ -1,6 +1,6 @@
--- The demands on sheets in the request's words: written back as the same bytes, read back as the same table, one encoding each; what the old edition means; and which record a table is refused for.
+-- The demands on sheets in the request's words: written back as the same bytes, read back as the same table, one encoding each; what is read by rank; what the old edition means; and which record a table is refused for.
 -- That the rules are tried in the document's order is `sheet-in-order` and `table-in-order` of Order.antt. Assumes nothing.
-use Prim.Native.Nat.{ℕ, _≤_, _<_}
+use Prim.Native.Nat.{ℕ, _+_, _*_, _-_, _≤_, _<_}
 use mathlib.Core.Path.{_≡_, refl, sym, ap, ap₂, _∙_, subst}
 use mathlib.Core.Bool.{Bool, true, false, cond, _||_}
 use mathlib.Core.Logic.{_⊎_, _↔_, inl, inr, ⊎-elim}
@@ -9,21 +9,24 @@ use native.Mathlib.Decide.{ℕ-discrete}
 use native.Mathlib.Omega.{arith}
 use borrow.Author.Tests.{ne-eqb}
 use lib.Dec.{eqb, ltb}
-use lib.ListN.{length, take, drop}
+use lib.ListN.{length, getD, take, drop}
 use lib.Seq.{take-at}
 use Rattle.places.specs.Refusals.{firstBelow}
 use Rattle.places.proofs.Refusals.{next-of, first-of, none-of}
 use Rattle.sheet.specs.declared.Record.{Record}
 use Rattle.sheet.specs.declared.Table.{Table}
 use Rattle.sheet.specs.Layout.{countOf, editionOf, roundOf, shareOf, startOf, sizeOf, sheetRecord, recordAt, tableOf, cleared, isWhole, editionFor, tableEdition, tableSize, sheetOf}
+use Rattle.sheet.specs.Columns.{Held}
 use Rattle.sheet.specs.Rules.{outside, wrongShare, taken, refusalOf, recordRefusal, recordsRefusal, sheetRefusal, figuresRefusal, tableRefusal, brokenBelow, brokenPlace}
-use Rattle.sheet.specs.Answers.{readAnswer, writeRefusal, writeAnswer, writeLeaves}
+use Rattle.sheet.specs.Answers.{readAnswer, rankedAnswer, columnsLeft, faultsLeft, ranksLeft, writeRefusal, writeAnswer, writeLeaves, rewriteRefusal, rewriteAnswer, rewriteLeaves}
 use Rattle.sheet.proofs.Spelled.{Bytes}
 use Rattle.sheet.proofs.Editions.{Edition, old, new, edition-of, edition-low, whole-old, right-share}
 use Rattle.sheet.proofs.Stores.{length-sheet}
 use Rattle.sheet.proofs.Cases.{good-sheet, good-table, size-good, header-good, table-records, write-fits, outside-within}
 use Rattle.sheet.proofs.Judging.{broken-none, broken-at}
-use Rattle.sheet.proofs.Agree.{records-agree, room-at}
+use Rattle.sheet.proofs.Agree.{records-agree, room-at, room-judged}
+use Rattle.sheet.proofs.Ranks.{ranked}
+use Rattle.sheet.proofs.ByRank.{columns-held, faults-held, ranks-held, columns-past, faults-past, ranks-past}
 use Rattle.sheet.proofs.Return.{Wide, old-fields, edition-kept, size-kept, sheet-kept, table-kept, count-read, edition-read, interval-read, round-read, share-read, records-read}
 
 -- a good sheet is read as its table
@@ -37,7 +40,7 @@ unfolding tableOf
 table-good s good =
     let header = good-sheet s good .0 in
     sym (table-records (tableOf s) (outside-within (countOf s) 8 (header .count)) (header .interval) (ap (λ (e : ℕ). wrongShare e (roundOf s) (shareOf s)) (edition-kept s header) ∙ header .share))
-    ∙ records-agree (countOf s) (room-at (sheetRecord s) (countOf s) (header .count .1)) ∙ good-sheet s good .1
+    ∙ room-judged (sheetRecord s) (countOf s) (header .count .1) ∙ good-sheet s good .1
 
 -- "writes each good sheet back as the same bytes": what is read from a good sheet and written into an output at least as long is that sheet, and the bytes after it stay as they were
 pub written-back : (s out : List ℕ) → Bytes s → sheetRefusal s ≡ 0 → length s ≤ length out
@@ -48,6 +51,66 @@ written-back s out byte good long =
     let size : tableSize (tableOf s) ≡ length s = sym (size-kept s header) in
     let fits : writeRefusal (tableOf s) out ≡ 0 = write-fits (tableOf s) out (table-good s good) (subst (λ (n : ℕ). n ≤ length out) (sym size) long) in
     rw (read-good s good) (simp (fits, size), simp (fits, sheet-kept s byte header, size))
+
+-- to rewrite a good sheet is to write the table that is read from it
+module _ (s out : List ℕ) (byte : Bytes s) (good : sheetRefusal s ≡ 0) where
+  refused-same : writeRefusal (tableOf s) out ≡ rewriteRefusal s out
+  unfolding writeRefusal rewriteRefusal
+  refused-same = next-of _ (table-good s good) ∙ ap (λ (n : ℕ). cond (ltb (length out) n) 11 0) (sym (size-kept s (good-sheet s good .0))) ∙ sym (next-of _ good)
+
+  pub rewritten : (writeAnswer (readAnswer s .table) out ≡ rewriteAnswer s out) × (writeLeaves (readAnswer s .table) out ≡ rewriteLeaves s out)
+  unfolding writeAnswer writeLeaves rewriteAnswer rewriteLeaves
+  rewritten = let header = good-sheet s good .0 in rw (read-good s good) (simp (refused-same, ← size-kept s header), simp (refused-same, sheet-kept s byte header, ← size-kept s header))
+
+-- a good sheet's figures are read by rank as its table's
+pub ranked-good : (s : List ℕ) → sheetRefusal s ≡ 0
+    → rankedAnswer s ≡ record { refusal = 0; count = tableOf s .count; interval = tableOf s .interval; round = tableOf s .round; share = tableOf s .share }
+unfolding rankedAnswer tableOf
+ranked-good s good = simp good
+
+-- its columns hold the fields of each record of its table at the record's rank, the count less its priority
+module _ (s : List ℕ) (good : sheetRefusal s ≡ 0) where
+  -- how many there are, and the record at a place
+  abbrev count : ℕ
+  count = countOf s
+
+  abbrev task : ℕ → Record
+  task = recordAt (tableOf s .records)
+
+  few : count ≤ 8
+  few = good-sheet s good .0 .count .1
+
+  task-is : (place : ℕ) → place < count → task place ≡ sheetRecord s place
+  unfolding tableOf
+  task-is = room-at (sheetRecord s) count few
+
+  pub columns-ranked : (columns : List ℕ) → length columns ≡ 32 → (place : ℕ) → place < count → Held (columnsLeft s columns) (count - task place .priority) (task place)
+  unfolding columnsLeft
+  columns-ranked columns long place below =
+      rw (task-is place below) (simp good (columns-held count (sheetRecord s) few (ranked count (sheetRecord s) (good-sheet s good .1)) columns long count (omega arith) place below))
+
+  pub faults-ranked : (faults : List ℕ) → length faults ≡ 8 → (place : ℕ) → place < count → getD (faultsLeft s faults) (count - task place .priority) 0 ≡ task place .«fault_priority»
+  unfolding faultsLeft
+  faults-ranked faults long place below =
+      rw (task-is place below) (simp good (faults-held count (sheetRecord s) few (ranked count (sheetRecord s) (good-sheet s good .1)) faults long count (omega arith) place below))
+
+  pub ranks-ranked : (ranks : List ℕ) → length ranks ≡ 8 → (place : ℕ) → place < count → getD (ranksLeft s ranks) place 0 ≡ count - task place .priority
+  unfolding ranksLeft
+  ranks-ranked ranks long place below =
+      rw (task-is place below) (simp good (ranks-held count (sheetRecord s) few (ranked count (sheetRecord s) (good-sheet s good .1)) ranks long place below))
+
+  -- and past the count they are as they were
+  pub columns-rest : (columns : List ℕ) (column rank : ℕ) → count ≤ rank → rank < 8 → getD (columnsLeft s columns) (8 * column + rank) 0 ≡ getD columns (8 * column + rank) 0
+  unfolding columnsLeft
+  columns-rest columns column rank past low = simp good (columns-past count (sheetRecord s) few (ranked count (sheetRecord s) (good-sheet s good .1)) columns column rank past low count (omega arith))
+
+  pub faults-rest : (faults : List ℕ) (rank : ℕ) → count ≤ rank → getD (faultsLeft s faults) rank 0 ≡ getD faults rank 0
+  unfolding faultsLeft
+  faults-rest faults rank past = simp good (faults-past count (sheetRecord s) few (ranked count (sheetRecord s) (good-sheet s good .1)) faults rank past count (omega arith))
+
+  pub ranks-rest : (ranks : List ℕ) (place : ℕ) → count ≤ place → getD (ranksLeft s ranks) place 0 ≡ getD ranks place 0
+  unfolding ranksLeft
+  ranks-rest ranks place past = simp good (ranks-past count (sheetRecord s) few (ranked count (sheetRecord s) (good-sheet s good .1)) ranks place past)
 
 -- the sheet of a good table is good
 sheet-good : (t : Table) → Wide t → tableRefusal t ≡ 0 → sheetRefusal (sheetOf t) ≡ 0

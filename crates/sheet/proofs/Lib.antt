@@ -6,6 +6,7 @@ pub mod Marked
 pub mod Parts
 pub mod Cases
 pub mod Ranks
+pub mod ByRank
 pub mod Order
 pub mod Judging
 pub mod Whole

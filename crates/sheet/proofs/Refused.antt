@@ -22,7 +22,7 @@ use Rattle.sheet.specs.declared.Excerpt.{Excerpt}
 use Rattle.sheet.specs.Layout.{countOf, intervalOf, roundOf, shareOf, headerSize, tableEdition, tableSize, sizeOf, partOf, recordOf, sheetRecord, room, tableOf, noRecord, noTable}
 use Rattle.sheet.specs.Rules.{headerRefusal, sheetRefusal, tableRefusal}
 use Rattle.sheet.specs.Broken.{RuleNumber}
-use Rattle.sheet.specs.Answers.{readAnswer, unjudgedAnswer, writeRefusal, writeAnswer, writeLeaves, placeRefusal, partStart, partBytes, Part, Excerpted}
+use Rattle.sheet.specs.Answers.{readAnswer, unjudgedAnswer, rankedAnswer, columnsLeft, faultsLeft, ranksLeft, writeRefusal, writeAnswer, writeLeaves, placeRefusal, partStart, partBytes, Part, Excerpted}
 use Rattle.sheet.proofs.Order.{sheet-in-order, table-in-order}
 use Rattle.sheet.proofs.Cases.{good-header, good-sheet}
 
@@ -138,6 +138,12 @@ module _ (s : List ℕ) where
   pub read-whole : sheetRefusal s ≡ 0 → (readAnswer s .refusal ≡ 0) × TableFrom s (readAnswer s .table)
   unfolding readAnswer
   read-whole good = (good, table-beside s (sheetRefusal s) good (good-sheet s good .0 .count .1))
+
+  -- `read_ranked`: a refused one its number beside zeros, and what is lent stays as it was
+  pub ranked-refused : (sheetRefusal s ≡ 0 → ⊥) → (columns faults ranks : List ℕ)
+      → (rankedAnswer s ≡ record { refusal = sheetRefusal s; count = 0; interval = 0; round = 0; share = 0 }) × (columnsLeft s columns ≡ columns) × (faultsLeft s faults ≡ faults) × (ranksLeft s ranks ≡ ranks)
+  unfolding rankedAnswer columnsLeft faultsLeft ranksLeft
+  ranked-refused broken columns faults ranks = (simp (ne-eqb (sheetRefusal s) 0 broken), beside-refusal (sheetRefusal s) _ columns broken, beside-refusal (sheetRefusal s) _ faults broken, beside-refusal (sheetRefusal s) _ ranks broken)
 
   -- `read_unjudged`: likewise for a refused header
   pub unjudged-refused : (headerRefusal s ≡ 0 → ⊥) → (unjudgedAnswer s .refusal ≡ headerRefusal s) × ZeroTable (unjudgedAnswer s .table)

@@ -20,6 +20,7 @@ use Rattle.sheet.specs.declared.Table.{Table}
 use Rattle.sheet.specs.declared.Said.{Said}
 use Rattle.sheet.specs.declared.Judged.{Judged}
 use Rattle.sheet.specs.declared.Reading.{Reading}
+use Rattle.sheet.specs.declared.Ranked.{Ranked}
 use Rattle.sheet.specs.declared.Writing.{Writing}
 use Rattle.sheet.specs.declared.Start.{Start}
 use Rattle.sheet.specs.declared.Excerpt.{Excerpt}
@@ -35,7 +36,9 @@ use Rattle.sheet.proofs.judge_whole.Reads as whole-judged
 use Rattle.sheet.proofs.read.Reads as reading
 use Rattle.sheet.proofs.read_whole.Reads as whole-reading
 use Rattle.sheet.proofs.read_unjudged.Reads as unjudged
+use Rattle.sheet.proofs.read_ranked.Reads as ranked-reading
 use Rattle.sheet.proofs.write.Reads as written
+use Rattle.sheet.proofs.rewrite.Reads as rewritten
 use Rattle.sheet.proofs.judge_place.Reads as place-judged
 use Rattle.sheet.proofs.record_start.Reads as started
 use Rattle.sheet.proofs.record_part.Reads as parted
@@ -66,6 +69,10 @@ read-unjudged-unique κs given a b left left′ = both
 pub read-whole-unique : (κs : Lfts 1) (given : _) (a b : Reading) (left left′ : _) → whole-reading.Learnt κs given a left → whole-reading.Learnt κs given b left′ → a ≡ b
 read-whole-unique κs given a b left left′ = both
 
+pub read-ranked-unique : (κs : Lfts 4) (given : _) (a b : Ranked) (left left′ : _) → ranked-reading.Learnt κs given a left → ranked-reading.Learnt κs given b left′
+    → (a ≡ b) × (now (left .1 .0) ≡ now (left′ .1 .0)) × (now (left .1 .1 .0) ≡ now (left′ .1 .1 .0)) × (now (left .1 .1 .1 .0) ≡ now (left′ .1 .1 .1 .0))
+read-ranked-unique κs given a b left left′ p q = (both (p .0) (q .0), both (p .1 .0) (q .1 .0), both (p .1 .1 .0) (q .1 .1 .0), both (p .1 .1 .1) (q .1 .1 .1))
+
 pub judge-place-unique : (κs : Lfts 1) (given : _) (a b : ℕ) (left left′ : _) → place-judged.Learnt κs given a left → place-judged.Learnt κs given b left′ → a ≡ b
 judge-place-unique κs given a b left left′ = both
 
@@ -74,6 +81,10 @@ record-start-unique κs given a b left left′ = both
 
 pub write-unique : (κs : Lfts 1) (given : _) (a b : Writing) (left left′ : _) → written.Learnt κs given a left → written.Learnt κs given b left′ → (a ≡ b) × (now (left .1 .0) ≡ now (left′ .1 .0))
 write-unique κs given a b left left′ p q = (both (p .0) (q .0), both (p .1) (q .1))
+
+pub rewrite-unique : (κs : Lfts 2) (given : _) (a b : Writing) (left left′ : _) → rewritten.Learnt κs given a left → rewritten.Learnt κs given b left′
+    → (a ≡ b) × (now (left .1 .0) ≡ now (left′ .1 .0))
+rewrite-unique κs given a b left left′ p q = (both (p .0) (q .0), both (p .1) (q .1))
 
 pub judge-table-unique : (given : _) (a b : ℕ) (left left′ : _) → table-judged.Learnt tt given a left → table-judged.Learnt tt given b left′ → a ≡ b
 judge-table-unique given a b left left′ = both

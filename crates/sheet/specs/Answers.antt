@@ -11,10 +11,12 @@ use Rattle.sheet.specs.declared.Table.{Table}
 use Rattle.sheet.specs.declared.Said.{Said}
 use Rattle.sheet.specs.declared.Judged.{Judged}
 use Rattle.sheet.specs.declared.Reading.{Reading}
+use Rattle.sheet.specs.declared.Ranked.{Ranked}
 use Rattle.sheet.specs.declared.Writing.{Writing}
 use Rattle.sheet.specs.declared.Start.{Start}
 use Rattle.sheet.specs.declared.Excerpt.{Excerpt}
-use Rattle.sheet.specs.Layout.{countOf, startOf, saidSize, partOf, tableOf, noTable, tableSize, sheetOf}
+use Rattle.sheet.specs.Layout.{countOf, intervalOf, roundOf, shareOf, sheetRecord, startOf, saidSize, partOf, tableOf, noTable, tableSize, sheetOf}
+use Rattle.sheet.specs.Columns.{columnsBelow, faultsBelow, ranksBelow}
 use Rattle.sheet.specs.Rules.{sizeRefusal, headerRefusal, sheetRefusal, tableRefusal, brokenPlace, wholeSheetRefusal}
 
 -- `said_size`: the refusal of rules 1 to 3 beside the bytes that the sheet has by its header, 0 where it is refused
@@ -33,6 +35,33 @@ unjudgedAnswer sheet = record { refusal = headerRefusal sheet; table = cond (eqb
 unfoldable pub wholeAnswer : List ℕ → Reading
 wholeAnswer sheet = record { refusal = wholeSheetRefusal sheet; table = cond (eqb (wholeSheetRefusal sheet) 0) (tableOf sheet) noTable }
 
+-- what stands beside a sheet's refusal: the figure where there is none, else 0
+abbrev pub figureOf : List ℕ → ℕ → ℕ
+figureOf sheet figure = cond (eqb (sheetRefusal sheet) 0) figure 0
+
+-- `read_ranked`: the refusal beside the header's figures, zeros where the sheet is refused
+unfoldable pub rankedAnswer : List ℕ → Ranked
+rankedAnswer sheet =
+    record {
+      refusal = sheetRefusal sheet;
+      count = figureOf sheet (countOf sheet);
+      interval = figureOf sheet (intervalOf sheet);
+      round = figureOf sheet (roundOf sheet);
+      share = figureOf sheet (shareOf sheet);
+    }
+
+-- the columns after `read_ranked`: the sheet's records by rank, or all as they were
+unfoldable pub columnsLeft : List ℕ → List ℕ → List ℕ
+columnsLeft sheet columns = cond (eqb (sheetRefusal sheet) 0) (columnsBelow (countOf sheet) (sheetRecord sheet) columns (countOf sheet)) columns
+
+-- and the fault priorities
+unfoldable pub faultsLeft : List ℕ → List ℕ → List ℕ
+faultsLeft sheet faults = cond (eqb (sheetRefusal sheet) 0) (faultsBelow (countOf sheet) (sheetRecord sheet) faults (countOf sheet)) faults
+
+-- and the ranks
+unfoldable pub ranksLeft : List ℕ → List ℕ → List ℕ
+ranksLeft sheet ranks = cond (eqb (sheetRefusal sheet) 0) (ranksBelow (countOf sheet) (sheetRecord sheet) ranks (countOf sheet)) ranks
+
 -- `judge_table_at`: the table's refusal beside the place of the record that breaks the rule
 unfoldable pub judgedAnswer : Table → Judged
 judgedAnswer t = record { refusal = tableRefusal t; place = brokenPlace t }
@@ -48,6 +77,18 @@ writeAnswer t out = record { refusal = writeRefusal t out; written = cond (eqb (
 -- the output after `write`: the sheet and then the bytes as they were, or all of it as it was
 unfoldable pub writeLeaves : Table → List ℕ → List ℕ
 writeLeaves t out = cond (eqb (writeRefusal t out) 0) (sheetOf t ++ drop (tableSize t) out) out
+
+-- the refusal of `rewrite`: the sheet's, then 11
+unfoldable pub rewriteRefusal : List ℕ → List ℕ → ℕ
+rewriteRefusal sheet out = orElse (sheetRefusal sheet) (cond (ltb (length out) (length sheet)) 11 0)
+
+-- `rewrite`: the refusal beside the number of bytes written
+unfoldable pub rewriteAnswer : List ℕ → List ℕ → Writing
+rewriteAnswer sheet out = record { refusal = rewriteRefusal sheet out; written = cond (eqb (rewriteRefusal sheet out) 0) (length sheet) 0 }
+
+-- the output after `rewrite`: "each good sheet back as the same bytes" and then the bytes as they were, or all of it as it was
+unfoldable pub rewriteLeaves : List ℕ → List ℕ → List ℕ
+rewriteLeaves sheet out = cond (eqb (rewriteRefusal sheet out) 0) (sheet ++ drop (length sheet) out) out
 
 -- `judge_place`: the sheet's refusal, then 12, "the record place asked for is not below the count"
 unfoldable pub placeRefusal : List ℕ → ℕ → ℕ

@@ -1,10 +1,11 @@
-// Timing sheets in both editions: records and tables, the rules they are judged by, the reader, the writer, and one record's own bytes.
+// Timing sheets in both editions: records and tables, the rules they are judged by, the readers, into a table and into columns by rank, the writer, and one record's own bytes.
 // Every call answers any bytes, numbers and tables; a refusal gives its number, and zeros or an empty part beside it.
 ghost use mathlib.Core.Path.{_≡_};
 ghost use Rattle.sheet.specs.Layout.{noRecord, noTable, isWhole};
 ghost use Rattle.sheet.specs.Rules.{figuresRefusal, sheetRefusal, tableRefusal, wholeRefusal};
-ghost use Rattle.sheet.specs.Answers.{sizeAnswer, judgedAnswer, readAnswer, unjudgedAnswer, wholeAnswer, writeAnswer, writeLeaves, placeRefusal, startAnswer, Part, Excerpted};
+ghost use Rattle.sheet.specs.Answers.{sizeAnswer, judgedAnswer, readAnswer, unjudgedAnswer, wholeAnswer, rankedAnswer, columnsLeft, faultsLeft, ranksLeft, writeAnswer, writeLeaves, rewriteAnswer, rewriteLeaves, placeRefusal, startAnswer, Part, Excerpted};
 
+mod columns;
 mod layout;
 mod rules;
 
@@ -45,7 +46,16 @@ pub struct Reading {
     pub table: Table,
 }
 
-// What `write` answers: the refusal, or 0 beside the number of bytes written.
+// What `read_ranked` answers: the refusal, or 0 beside the count, the fault interval, the round and our share of it.
+pub struct Ranked {
+    pub refusal: u8,
+    pub count: u8,
+    pub interval: u16,
+    pub round: u16,
+    pub share: u16,
+}
+
+// What `write` and `rewrite` answer: the refusal, or 0 beside the number of bytes written.
 pub struct Writing {
     pub refusal: u8,
     pub written: usize,
@@ -174,17 +184,23 @@ pub fn judge_whole(table: Table) -> u8
 pub fn read(sheet: &[u8]) -> Reading
     ensures { λ r. ⌜ r ≡ readAnswer (now (sheet .entry)) ⌝ }
 {
-    let refusal = judge(sheet);
-    if refusal != 0 {
+    let of_header = rules::judge_header(sheet);
+    if of_header != 0 {
         return Reading {
-            refusal,
+            refusal: of_header,
             table: no_table(),
         };
     }
-    Reading {
-        refusal: 0,
-        table: layout::table_of(sheet),
+    let table = layout::table_of(sheet);
+    let records = table.records;
+    let of_records = rules::judge_records(records, table.count).refusal;
+    if of_records != 0 {
+        return Reading {
+            refusal: of_records,
+            table: no_table(),
+        };
     }
+    Reading { refusal: 0, table }
 }
 
 // The same of a sheet whose header is good, with its records as they stand, good or not.
@@ -223,6 +239,39 @@ pub fn read_whole(sheet: &[u8]) -> Reading
     reading
 }
 
+// The records of a good sheet as columns by rank, the count less the priority: costs from 0 on, periods from 8, backups from 16, deadlines from 24; beside them the fault priorities, and each record's rank at its place; past the count all stays as it was.
+pub fn read_ranked(
+    sheet: &[u8],
+    columns: &mut [u16; 32],
+    faults: &mut [u8; 8],
+    ranks: &mut [u8; 8],
+) -> Ranked
+    ensures answer { λ r. ⌜ r ≡ rankedAnswer (now (sheet .entry)) ⌝ }
+    ensures fields { λ _. ⌜ now (columns .exit) ≡ columnsLeft (now (sheet .entry)) (now (columns .entry)) ⌝ }
+    ensures faults { λ _. ⌜ now (faults .exit) ≡ faultsLeft (now (sheet .entry)) (now (faults .entry)) ⌝ }
+    ensures ranks { λ _. ⌜ now (ranks .exit) ≡ ranksLeft (now (sheet .entry)) (now (ranks .entry)) ⌝ }
+{
+    let refusal = judge(sheet);
+    if refusal != 0 {
+        return Ranked {
+            refusal,
+            count: 0,
+            interval: 0,
+            round: 0,
+            share: 0,
+        };
+    }
+    let count = layout::count(sheet);
+    columns::put_ranked(sheet, count, columns, faults, ranks);
+    Ranked {
+        refusal: 0,
+        count,
+        interval: layout::interval(sheet),
+        round: layout::round(sheet),
+        share: layout::share(sheet),
+    }
+}
+
 // Writes a good table's sheet at the start of the output.
 pub fn write(table: Table, out: &mut [u8]) -> Writing
     ensures answer { λ r. ⌜ r ≡ writeAnswer table (now (out .entry)) ⌝ }
@@ -247,6 +296,31 @@ pub fn write(table: Table, out: &mut [u8]) -> Writing
     Writing {
         refusal: 0,
         written: size,
+    }
+}
+
+// Reads a sheet and writes its table at the start of the output: the same bytes.
+pub fn rewrite(sheet: &[u8], out: &mut [u8]) -> Writing
+    ensures answer { λ r. ⌜ r ≡ rewriteAnswer (now (sheet .entry)) (now (out .entry)) ⌝ }
+    ensures leaves { λ _. ⌜ now (out .exit) ≡ rewriteLeaves (now (sheet .entry)) (now (out .entry)) ⌝ }
+{
+    let reading = read(sheet);
+    if reading.refusal != 0 {
+        return Writing {
+            refusal: reading.refusal,
+            written: 0,
+        };
+    }
+    if out.len() < sheet.len() {
+        return Writing {
+            refusal: 11,
+            written: 0,
+        };
+    }
+    layout::put_sheet(out, reading.table);
+    Writing {
+        refusal: 0,
+        written: sheet.len(),
     }
 }
 

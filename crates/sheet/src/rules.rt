@@ -77,8 +77,9 @@ pub fn judge_header(sheet: &[u8]) -> u8
 }
 
 // Whether the priority is marked; a priority that no mark is kept for is not.
-fn is_marked(marks: [bool; 16], priority: u8) -> bool
-    ensures { λ r. ⌜ r ≡ getD marks priority false ⌝ }
+fn is_marked(marks: &[bool; 16], priority: u8) -> bool
+    requires { ⌜ length (now marks) ≡ 16 ⌝ }
+    ensures { λ r. ⌜ r ≡ getD (now (marks .entry)) priority false ⌝ }
 {
     let value = priority as usize;
     if value < 16 { marks[value] } else { false }
@@ -131,7 +132,7 @@ pub fn judge_parts(sheet: &[u8], count: u8) -> u8
         let end = begin + 9;
         let part = &sheet[begin..end];
         let priority = layout::priority_from(part);
-        let refusal = judge_record(part, count, is_marked(marks, priority));
+        let refusal = judge_record(part, count, is_marked(&marks, priority));
         if refusal != 0 {
             return refusal;
         }
@@ -151,7 +152,7 @@ pub fn judge_records(records: [Record; 8], count: u8) -> Judged
     let mut place: usize = 0;
     while place < count as usize {
         let task = records[place];
-        let refusal = judge_fields(task, count, is_marked(marks, task.priority));
+        let refusal = judge_fields(task, count, is_marked(&marks, task.priority));
         if refusal != 0 {
             return Judged { refusal, place };
         }

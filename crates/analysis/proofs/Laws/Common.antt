@@ -1,4 +1,4 @@
--- What both rules share: rounding up, the search, tests and choices place by place, and the table held in order, over which the code computes.
+-- What both rules share: rounding up, the search, tests and choices place by place, and the tasks in columns by rank, over which the code computes.
 pub mod Rounding
 pub mod Climbing
 pub mod Easier
@@ -8,4 +8,9 @@ pub mod Choice
 pub mod Supplier
 pub mod Reordered
 pub mod Placing
-pub mod Tied
+pub mod Columned
+pub mod Ranked
+pub mod InOrder
+pub mod Jumping
+pub mod Taken
+pub mod Started

@@ -27,27 +27,22 @@ returns c =
 own-choice-requires : tie.Need-own-choice-requires
 own-choice-requires c κs = search needs
 
-ordered-requires : tie.Need-ordered-requires
+entry-of-requires : tie.Need-entry-of-requires
 unfolding placeRefusal
-ordered-requires c κs =
+entry-of-requires c κs =
     let given = c .before .before .before in
-    rule-good _ _ (none-of (ruleRefusal (given .args .rule) (given .args .table)) _ (sym (c .before .before .judge-record-place .ensures) ∙ c .before .if1 .left) .0)
-
-entry-at-requires : tie.Need-entry-at-requires
-unfolding placeRefusal
-entry-at-requires c κs =
-    let given = c .before .before .before .before in
     let table = given .args .table in
-    let good = none-of (ruleRefusal (given .args .rule) table) _ (sym (c .before .before .before .judge-record-place .ensures) ∙ c .before .before .if1 .left) in
-    (good .0, (record { within = subst (Within table) (sym (c .before .own-choice .ensures)) (own-allowed table (rule-good _ table (good .0)) .each); order = c .ordered .ensures }, place-below _ _ (good .1)))
+    let fine = none-of (ruleRefusal (given .args .rule) table) _ (sym (c .before .before .judge-record-place .ensures) ∙ c .before .if1 .left) in
+    let good = rule-good _ table (fine .0) in
+    (good, (subst (Within table) (sym (c .own-choice .ensures)) (own-allowed table good .each), place-below _ _ (fine .1)))
 
 returns-2 : tie.Need-returns-2
 unfolding timedBy
 returns-2 c =
-    let good = sym (c .before .before .before .before .judge-record-place .ensures) ∙ c .before .before .before .if1 .left in
-    simp (good, c .entry-at .ensures, c .before .before .own-choice .ensures)
+    let good = sym (c .before .before .before .judge-record-place .ensures) ∙ c .before .before .if1 .left in
+    simp (good, c .entry-of .ensures, c .before .own-choice .ensures)
 
 pub time-by-spec : {M : Type 1} → statement M
 time-by-spec =
     tie.close
-    (tie.spec judge-record-place-requires no-entry-requires returns own-choice-requires ordered-requires entry-at-requires returns-2)
+    (tie.spec judge-record-place-requires no-entry-requires returns own-choice-requires entry-of-requires returns-2)

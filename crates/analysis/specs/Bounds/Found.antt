@@ -10,8 +10,9 @@ use Rattle.analysis.specs.declared.Rule.{Rule}
 use Rattle.analysis.specs.Common.Columns.{prioritiesOf, backupsOf}
 use Rattle.analysis.specs.ByRule.{ruleRefusal}
 use Rattle.analysis.specs.Bounds.Limits.{limitAt}
+use Rattle.analysis.specs.Bounds.Hopeless.{noneMeets}
 
--- no bounds: those of a refused table, beside its number
+-- no bounds: those of a refused table beside its number, and beside 0 those of a table of which a few searches tell that no choice meets the rule
 abbrev pub noBounds : ℕ → Bounds
 noBounds refusal = record { refusal = refusal; count = 0; priorities = replicate 8 0; backups = replicate 8 0; limits = replicate 72 0 }
 
@@ -28,4 +29,4 @@ foundBounds rule t =
 
 -- `bounds_of`: those of a table that is not refused under the rule
 unfoldable pub boundsOf : Rule → Table → Bounds
-boundsOf rule t = cond (eqb (ruleRefusal rule t) 0) (foundBounds rule t) (noBounds (ruleRefusal rule t))
+boundsOf rule t = cond (eqb (ruleRefusal rule t) 0) (cond (noneMeets t) (noBounds 0) (foundBounds rule t)) (noBounds (ruleRefusal rule t))

@@ -1,5 +1,5 @@
 -- Whether a choice stays within bounds.
-use Prim.Native.Nat.{ℕ, _+_, _*_, _≤_, _<_}
+use Prim.Native.Nat.{ℕ, _+_, _*_, _<_}
 use mathlib.Core.Path.{_≡_}
 use mathlib.Core.Bool.{Bool, cond, not, _&&_}
 use mathlib.Core.List.{List}
@@ -10,7 +10,6 @@ use Rattle.places.specs.Refusals.{orElse}
 use Rattle.sheet.specs.Rules.{outside}
 use Rattle.analysis.specs.declared.Bounds.{Bounds}
 use Rattle.analysis.specs.declared.Verdict.{Verdict}
-use Rattle.analysis.specs.declared.Weighed.{Weighed}
 use Rattle.analysis.specs.declared.Rule.{Rule}
 use Rattle.analysis.specs.declared.Rule.the-variants.{Published, Assured}
 use Rattle.analysis.specs.Common.Backups.{others, everyone}
@@ -21,18 +20,13 @@ use Rattle.analysis.specs.Assured.Ahead.{largestAhead}
 unfoldable pub largestOf : List ℕ → List ℕ → (ℕ → Bool) → ℕ → ℕ → ℕ
 largestOf backups choice meant priority = mostBelow (λ k. cond (meant k && leb priority (getD choice k 0)) (getD backups k 0) 0)
 
--- a choice beside bounds of at most 8 records, with its tops
-pub record Weighs (w : Weighed) : Type 0 where
-  pub few : w .count ≤ 8
-  pub tops : (priority : ℕ) → priority < 9 → getD (w .tops) priority 0 ≡ largestOf (w .backups) (w .choice) everyone priority (w .count)
+-- the tops of n records under a choice: the largest backup at or above each priority
+abbrev pub TopsOf : List ℕ → List ℕ → ℕ → List ℕ → Type 0
+TopsOf backups choice n tops = (priority : ℕ) → priority < 9 → getD tops priority 0 ≡ largestOf backups choice everyone priority n
 
--- the choice weighed beside these bounds
-pub record WeighedOf (b : Bounds) (choice : List ℕ) (w : Weighed) : Type 0 where
-  pub weighs : Weighs w
-  pub backups : w .backups ≡ b .backups
-  pub priorities : w .priorities ≡ b .priorities
-  pub faults : w .choice ≡ choice
-  pub records : w .count ≡ b .count
+-- bounds that are given field by field
+abbrev pub boundsIn : ℕ → ℕ → List ℕ → List ℕ → List ℕ → Bounds
+boundsIn refusal count priorities backups limits = record { refusal = refusal; count = count; priorities = priorities; backups = backups; limits = limits }
 
 -- whether M and N of the record at a place, of n, are below a limit for struck itself and one for struck elsewhere; under the assured rule, whether its N is below the first
 unfoldable pub below : Rule → List ℕ → List ℕ → List ℕ → ℕ → ℕ → ℕ → ℕ → Bool
@@ -58,6 +52,6 @@ withinBounds rule b choice = not (someBelow (λ place. not (withinAt rule b choi
 unfoldable pub boundsRefusal : ℕ → ℕ → ℕ
 boundsRefusal refusal count = orElse refusal (cond (outside count 8) 2 0)
 
--- `meets_within`: whether a choice stays within bounds that are not refused
+-- `meets_lent`: whether a choice stays within bounds that are not refused
 unfoldable pub withinAnswer : Rule → Bounds → List ℕ → Verdict
 withinAnswer rule b choice = verdictOf (boundsRefusal (b .refusal) (b .count)) (withinBounds rule b choice)

@@ -1,14 +1,25 @@
 -- What the code computes with: the records held from the highest priority to the lowest, so that "above" is "before", and one demand for both equations. An inner device, tied to the equations by laws; no public promise cites it.
-use Prim.Native.Nat.{ℕ, _+_, _-_, _*_, _≤_, _<_}
+use Prim.Native.Nat.{ℕ, _+_, _-_, _*_}
 use mathlib.Core.Bool.{true}
+use mathlib.Core.List.{List}
+use lib.ListN.{getD}
 use Rattle.places.specs.Places.{sumBelow, mostBelow}
-use Rattle.sheet.specs.declared.Table.{Table}
-use Rattle.analysis.specs.declared.Demand.{Demand}
-use Rattle.analysis.specs.Common.Order.{Sorted}
 use Rattle.analysis.specs.Common.Rounding.{up}
 use Rattle.analysis.specs.Common.Tasks.{Tasks}
 use Rattle.analysis.specs.Common.Backups.{backupOf}
 use Rattle.analysis.specs.Common.Supplier.{supplierOf}
+
+-- one of the equations as the code computes it, for the record at a rank: a base, the records before the rank and those after it and before the last, the backup paid for each fault, and what is already paid
+pub record Demand : Type 0 where
+  pub base : ℕ
+  pub rank : ℕ
+  pub until : ℕ
+  pub backup : ℕ
+  pub paid : ℕ
+
+-- the demand that five numbers are
+abbrev pub demandIn : List ℕ → Demand
+demandIn numbers = record { base = getD numbers 0 0; rank = getD numbers 1 0; until = getD numbers 2 0; backup = getD numbers 3 0; paid = getD numbers 4 0 }
 
 -- the largest B among the records before a rank with q at or above the priority, or 0
 unfoldable pub largestBefore : Tasks → ℕ → ℕ → ℕ
@@ -25,11 +36,3 @@ loadOf s d L = runsOf s 0 (d .rank) L + runsOf s (d .rank + 1) (d .until) L + up
 -- a base plus the load, less what is already paid
 unfoldable pub demandOf : Tasks → Demand → ℕ → ℕ
 demandOf s d L = d .base + loadOf s d L - d .paid
-
--- a demand that is sought over a table held in order, at a fault interval that is not 0: for a record of it, over records of it, with a base of less than 35 bits
-pub record Sought (t : Table) (interval : ℕ) (d : Demand) : Type 0 where
-  pub sorted : Sorted t
-  pub often : 1 ≤ interval
-  pub rank : d .rank < t .count
-  pub until : d .until ≤ t .count
-  pub base : d .base < 34359738368

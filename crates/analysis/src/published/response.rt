@@ -1,106 +1,108 @@
-// Response times: struck elsewhere, struck itself, the larger of both. They are computed with the records held from the highest priority to the lowest.
-// Fault priorities come from a choice beside the table. Each time is searched for up to a limit.
+// Response times by rank: struck elsewhere, struck itself and the larger of both, whether a task is late, and whether none is. The tasks and their fault priorities stand in columns by rank.
 ghost use mathlib.Core.Path.{_≡_};
-ghost use Prim.Native.Nat.{_≤_, _<_, _+_};
-ghost use Rattle.analysis.specs.Common.Order.{Ranked, RankedUnder, InOrder};
-ghost use mathlib.Core.List.{[]};
-ghost use Rattle.analysis.specs.Common.Tasks.{tasksOf};
-ghost use Rattle.analysis.specs.Published.Equations.{askedElsewhere, askedItself};
-ghost use Rattle.analysis.specs.Common.Search.{leastWithin};
-ghost use Rattle.analysis.specs.Published.Response.{timeElsewhere, timeItself, responseWithin, responseTime};
-use crate::Demand;
-use crate::Ordered;
-use crate::common::search;
-use crate::common::workload;
-use sheet::Table;
+ghost use mathlib.Core.Bool.{not};
+ghost use Prim.Native.Nat.{_<_};
+ghost use lib.Dec.{eqb};
+ghost use Rattle.analysis.specs.Common.Backups.{backupElsewhere, backupFromFault};
+ghost use Rattle.analysis.specs.Published.Response.{timeElsewhere, timeItself, responseWithin, late, passes};
+ghost use Rattle.analysis.specs.Common.ByRank.{ranked, InOrder, ChosenIn};
+use crate::common::by_rank::Frame;
+use crate::common::load;
+use crate::published::times;
 
-// The time of the record at a rank when faults strike other tasks only, with a largest backup, or 0. No length below the base is enough, so the climb starts there.
-pub fn elsewhere_with(table: Table, interval: u16, rank: usize, backup: u16, limit: u64) -> u64
-    requires ranked { ⌜ Ranked table interval rank ⌝ }
-    requires limited { ⌜ limit < 65536 ⌝ }
-    ensures is { λ r. ⌜ r ≡ leastWithin (askedElsewhere (tasksOf table interval []) rank backup) 1 limit ⌝ }
-    ensures narrow { λ r. ⌜ r < 65536 ⌝ }
-{
-    let task = table.records[rank];
-    let base = workload::wide(task.cost);
-    let sought = Demand {
-        base,
-        rank,
-        until: 0,
-        backup,
-        paid: 0,
-    };
-    search::climb(table, interval, sought, base, limit)
-}
-
-// The time of the record at a rank when the first fault strikes it, under a fault priority and with a largest backup, or 0, likewise. The records above its
-// fault priority are those before the last, and each of them that stands after it runs once more.
-pub fn itself_with(
-    table: Table,
-    interval: u16,
+// The largest backup that a fault elsewhere brings to the task at a rank: one at or above its priority is that of a task before it.
+fn backup_elsewhere<'a>(
+    columns: &'a [u16; 32],
+    faults: &'a [u8; 8],
+    frame: Frame,
     rank: usize,
-    fault: u8,
-    backup: u16,
-    limit: u64,
-) -> u64
-    requires ranked { ⌜ RankedUnder table interval rank fault ⌝ }
-    requires limited { ⌜ limit < 65536 ⌝ }
-    ensures is { λ r. ⌜ r ≡ leastWithin (askedItself (tasksOf table interval []) rank fault backup) 1 limit ⌝ }
-    ensures narrow { λ r. ⌜ r < 65536 ⌝ }
+) -> u16
+    requires order { ⌜ InOrder (ranked (now columns) frame (now faults)) ⌝ }
+    requires chosen { ⌜ ChosenIn (ranked (now columns) frame (now faults)) ⌝ }
+    requires below { ⌜ rank < frame .count ⌝ }
+    ensures { λ r. ⌜ r ≡ backupElsewhere (ranked (now (columns .entry)) frame (now (faults .entry))) rank ⌝ }
 {
-    let task = table.records[rank];
-    let until = (table.count - fault) as usize;
-    let once = workload::runs(table, rank + 1, until, 1);
-    let base = workload::wide(task.cost) + workload::wide(task.backup) + once;
-    let sought = Demand {
-        base,
-        rank,
-        until,
-        backup,
-        paid: workload::wide(backup),
-    };
-    search::climb(table, interval, sought, base, limit)
+    load::largest(columns, faults, rank, frame.count - rank as u8)
 }
 
-// The time of the record at a rank when faults strike other tasks only, or 0. A backup at or above its priority is that of a record before it.
-fn elsewhere(table: Table, interval: u16, faults: [u8; 8], rank: usize, limit: u64) -> u64
-    requires order { ⌜ InOrder table interval faults ⌝ }
-    requires here { ⌜ rank < table .count ⌝ }
-    requires limited { ⌜ limit < 65536 ⌝ }
-    ensures is { λ r. ⌜ r ≡ timeElsewhere limit (tasksOf table interval faults) rank ⌝ }
-    ensures narrow { λ r. ⌜ r < 65536 ⌝ }
-{
-    let priority = table.records[rank].priority;
-    let backup = workload::largest(table, faults, rank, priority);
-    elsewhere_with(table, interval, rank, backup, limit)
-}
-
-// The time of the record at a rank when the first fault strikes it, or 0. A backup at or above its fault priority is that of a record before the last, or the last.
-fn itself(table: Table, interval: u16, faults: [u8; 8], rank: usize, limit: u64) -> u64
-    requires order { ⌜ InOrder table interval faults ⌝ }
-    requires here { ⌜ rank < table .count ⌝ }
-    requires limited { ⌜ limit < 65536 ⌝ }
-    ensures is { λ r. ⌜ r ≡ timeItself limit (tasksOf table interval faults) rank ⌝ }
-    ensures narrow { λ r. ⌜ r < 65536 ⌝ }
+// The largest backup from its fault priority on: one at or above that is that of a task before the last, or of the last.
+fn backup_from_fault<'a>(
+    columns: &'a [u16; 32],
+    faults: &'a [u8; 8],
+    frame: Frame,
+    rank: usize,
+) -> u16
+    requires order { ⌜ InOrder (ranked (now columns) frame (now faults)) ⌝ }
+    requires chosen { ⌜ ChosenIn (ranked (now columns) frame (now faults)) ⌝ }
+    requires below { ⌜ rank < frame .count ⌝ }
+    ensures { λ r. ⌜ r ≡ backupFromFault (ranked (now (columns .entry)) frame (now (faults .entry))) rank ⌝ }
 {
     let fault = faults[rank];
-    let until = (table.count - fault) as usize;
-    let backup = workload::largest(table, faults, until + 1, fault);
-    itself_with(table, interval, rank, fault, backup, limit)
+    load::largest(columns, faults, (frame.count - fault) as usize + 1, fault)
 }
 
-// The response time of the record at a rank, or 0 where it is late.
-pub fn response(table: Table, interval: u16, faults: [u8; 8], rank: usize, limit: u64) -> u16
-    requires order { ⌜ InOrder table interval faults ⌝ }
-    requires here { ⌜ rank < table .count ⌝ }
-    requires limited { ⌜ limit < 65536 ⌝ }
-    ensures { λ r. ⌜ r ≡ responseWithin limit (tasksOf table interval faults) rank ⌝ }
+// The time of the task at a rank when faults strike other tasks only, or 0.
+fn elsewhere<'a>(
+    columns: &'a [u16; 32],
+    faults: &'a [u8; 8],
+    frame: Frame,
+    rank: usize,
+    limit: u64,
+) -> u64
+    requires order { ⌜ InOrder (ranked (now columns) frame (now faults)) ⌝ }
+    requires chosen { ⌜ ChosenIn (ranked (now columns) frame (now faults)) ⌝ }
+    requires below { ⌜ rank < frame .count ⌝ }
+    requires short { ⌜ limit < 65536 ⌝ }
+    ensures same { λ r. ⌜ r ≡ timeElsewhere limit (ranked (now (columns .entry)) frame (now (faults .entry))) rank ⌝ }
+    ensures small { λ r. ⌜ r < 65536 ⌝ }
 {
-    let first = elsewhere(table, interval, faults, rank, limit);
+    times::elsewhere_with(
+        columns,
+        frame,
+        rank,
+        backup_elsewhere(columns, faults, frame, rank),
+        limit,
+    )
+}
+
+// The time of the task at a rank when the first fault strikes it, or 0.
+fn itself<'a>(
+    columns: &'a [u16; 32],
+    faults: &'a [u8; 8],
+    frame: Frame,
+    rank: usize,
+    limit: u64,
+) -> u64
+    requires order { ⌜ InOrder (ranked (now columns) frame (now faults)) ⌝ }
+    requires chosen { ⌜ ChosenIn (ranked (now columns) frame (now faults)) ⌝ }
+    requires below { ⌜ rank < frame .count ⌝ }
+    requires short { ⌜ limit < 65536 ⌝ }
+    ensures same { λ r. ⌜ r ≡ timeItself limit (ranked (now (columns .entry)) frame (now (faults .entry))) rank ⌝ }
+    ensures small { λ r. ⌜ r < 65536 ⌝ }
+{
+    let backup = backup_from_fault(columns, faults, frame, rank);
+    times::itself_with(columns, frame, rank, faults[rank], backup, limit)
+}
+
+// The response time of the task at a rank within a limit, or 0.
+pub fn response<'a>(
+    columns: &'a [u16; 32],
+    faults: &'a [u8; 8],
+    frame: Frame,
+    rank: usize,
+    limit: u64,
+) -> u16
+    requires order { ⌜ InOrder (ranked (now columns) frame (now faults)) ⌝ }
+    requires chosen { ⌜ ChosenIn (ranked (now columns) frame (now faults)) ⌝ }
+    requires below { ⌜ rank < frame .count ⌝ }
+    requires short { ⌜ limit < 65536 ⌝ }
+    ensures { λ r. ⌜ r ≡ responseWithin limit (ranked (now (columns .entry)) frame (now (faults .entry))) rank ⌝ }
+{
+    let first = elsewhere(columns, faults, frame, rank, limit);
     if first == 0 {
         return 0;
     }
-    let second = itself(table, interval, faults, rank, limit);
+    let second = itself(columns, faults, frame, rank, limit);
     if second == 0 {
         return 0;
     }
@@ -111,13 +113,73 @@ pub fn response(table: Table, interval: u16, faults: [u8; 8], rank: usize, limit
     }
 }
 
-// The response time of the record at a rank of a table held in order, or 0.
-pub fn response_at(held: Ordered, rank: usize) -> u16
-    requires order { ⌜ InOrder (held .table) (held .table .interval) (held .faults) ⌝ }
-    requires here { ⌜ rank < held .table .count ⌝ }
-    ensures { λ r. ⌜ r ≡ responseTime (tasksOf (held .table) (held .table .interval) (held .faults)) rank ⌝ }
+// Whether the task at a rank has a time within a limit when faults strike other tasks only.
+fn elsewhere_met<'a>(
+    columns: &'a [u16; 32],
+    faults: &'a [u8; 8],
+    frame: Frame,
+    rank: usize,
+    limit: u64,
+) -> bool
+    requires order { ⌜ InOrder (ranked (now columns) frame (now faults)) ⌝ }
+    requires chosen { ⌜ ChosenIn (ranked (now columns) frame (now faults)) ⌝ }
+    requires below { ⌜ rank < frame .count ⌝ }
+    requires short { ⌜ limit < 65536 ⌝ }
+    ensures { λ r. ⌜ r ≡ not (eqb (timeElsewhere limit (ranked (now (columns .entry)) frame (now (faults .entry))) rank) 0) ⌝ }
 {
-    let faults = held.faults;
-    let limit = workload::wide(search::LONGEST);
-    response(held.table, held.table.interval, faults, rank, limit)
+    times::elsewhere_met(
+        columns,
+        frame,
+        rank,
+        backup_elsewhere(columns, faults, frame, rank),
+        limit,
+    )
+}
+
+// Whether it has one when the first fault strikes it.
+fn itself_met<'a>(
+    columns: &'a [u16; 32],
+    faults: &'a [u8; 8],
+    frame: Frame,
+    rank: usize,
+    limit: u64,
+) -> bool
+    requires order { ⌜ InOrder (ranked (now columns) frame (now faults)) ⌝ }
+    requires chosen { ⌜ ChosenIn (ranked (now columns) frame (now faults)) ⌝ }
+    requires below { ⌜ rank < frame .count ⌝ }
+    requires short { ⌜ limit < 65536 ⌝ }
+    ensures { λ r. ⌜ r ≡ not (eqb (timeItself limit (ranked (now (columns .entry)) frame (now (faults .entry))) rank) 0) ⌝ }
+{
+    let backup = backup_from_fault(columns, faults, frame, rank);
+    times::itself_met(columns, frame, rank, faults[rank], backup, limit)
+}
+
+// Whether the task at a rank is late: it has no response time within its deadline, whichever that is.
+pub fn is_late<'a>(columns: &'a [u16; 32], faults: &'a [u8; 8], frame: Frame, rank: usize) -> bool
+    requires order { ⌜ InOrder (ranked (now columns) frame (now faults)) ⌝ }
+    requires chosen { ⌜ ChosenIn (ranked (now columns) frame (now faults)) ⌝ }
+    requires below { ⌜ rank < frame .count ⌝ }
+    ensures { λ r. ⌜ r ≡ late (ranked (now (columns .entry)) frame (now (faults .entry))) rank ⌝ }
+{
+    let deadline = load::wide(columns[24 + rank]);
+    if elsewhere_met(columns, faults, frame, rank, deadline) {
+        return !itself_met(columns, faults, frame, rank, deadline);
+    }
+    true
+}
+
+// Whether no task is late, from the lowest up: what runs above a task delays it, so that a low one is late the sooner.
+pub fn passes_in_order<'a>(columns: &'a [u16; 32], faults: &'a [u8; 8], frame: Frame) -> bool
+    requires order { ⌜ InOrder (ranked (now columns) frame (now faults)) ⌝ }
+    requires chosen { ⌜ ChosenIn (ranked (now columns) frame (now faults)) ⌝ }
+    ensures { λ r. ⌜ r ≡ passes (ranked (now (columns .entry)) frame (now (faults .entry))) ⌝ }
+{
+    let mut rank = frame.count as usize;
+    while 0 < rank {
+        rank -= 1;
+        if is_late(columns, faults, frame, rank) {
+            return false;
+        }
+    }
+    true
 }

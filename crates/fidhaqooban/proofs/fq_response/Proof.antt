@@ -1,5 +1,5 @@
 -- `fidhaqooban::fq_response` meets its contract. Assumes nothing.
-use mathlib.Core.Path.{ap₂, _∙_}
+use mathlib.Core.Path.{ap, _∙_}
 use Rattle.fidhaqooban.specs.Numbers.{answerOf}
 use Rattle.fidhaqooban.proofs.Minus.{handed}
 use Rattle.fidhaqooban.proofs.Answered.{response-is}
@@ -7,14 +7,8 @@ use borrow.Author.Needs.{needs}
 use Rattle.fidhaqooban.proofs.fq_response.Statement.{statement}
 use Rattle.fidhaqooban.proofs.fq_response.Tie as tie
 
-read-requires : tie.Need-read-requires
-read-requires c κs = search needs
-
-response-time-requires : tie.Need-response-time-requires
-response-time-requires c κs = search needs
-
-first-requires : tie.Need-first-requires
-first-requires c κs = search needs
+time-in-requires : tie.Need-time-in-requires
+time-in-requires c κs = search needs
 
 time-of-requires : tie.Need-time-of-requires
 time-of-requires c κs = search needs
@@ -24,9 +18,8 @@ answer-requires c κs = search needs
 
 returns : tie.Need-returns
 returns c =
-    let timed = c .before .before .before .before in
-    handed (c .answer .result) (c .answer .ok) ∙ c .answer .ensures ∙ ap₂ answerOf (c .before .before .before .first .ensures) (c .before .time-of .ensures .0)
-    ∙ response-is _ _ (timed .before .read .ensures) _ _ (timed .response-time .ensures)
+    let timed = c .before .before .before in
+    handed (c .answer .result) (c .answer .ok) ∙ c .answer .ensures ∙ ap (answerOf (timed .time-in .result .refusal)) (c .before .time-of .ensures .0) ∙ response-is _ _ _ (timed .time-in .ensures)
 
 pub fq-response-spec : {M : Type 1} → statement M
-fq-response-spec = tie.close (tie.spec read-requires response-time-requires first-requires time-of-requires answer-requires returns)
+fq-response-spec = tie.close (tie.spec time-in-requires time-of-requires answer-requires returns)

@@ -10,14 +10,8 @@ use borrow.Author.Needs.{needs}
 use Rattle.fidhaqooban.proofs.fq_slack.Statement.{statement}
 use Rattle.fidhaqooban.proofs.fq_slack.Tie as tie
 
-read-requires : tie.Need-read-requires
-read-requires c κs = search needs
-
-response-time-requires : tie.Need-response-time-requires
-response-time-requires c κs = search needs
-
-first-requires : tie.Need-first-requires
-first-requires c κs = search needs
+time-in-requires : tie.Need-time-in-requires
+time-in-requires c κs = search needs
 
 answer-requires : tie.Need-answer-requires
 answer-requires c κs = search needs
@@ -25,11 +19,11 @@ answer-requires c κs = search needs
 returns : tie.Need-returns
 returns c =
     let asked = c .before .before .before in
-    let start = asked .before .before .before in
+    let start = asked .before .before in
     let sheet = start .args .sheet .now in
     let place = start .args .place in
     let out = start .args .out .now in
-    let same = c .before .before .first .ensures ∙ place-asked sheet _ (asked .before .read .ensures) place _ (asked .response-time .ensures) in
+    let same = place-asked sheet place _ (asked .time-in .ensures) in
     let refused = refused-slack sheet place out _ (c .before .if1 .taken) (same ∙ place-first sheet place out (λ none. c .before .if1 .taken (same ∙ none))) in
     (handed (c .answer .result) (c .answer .ok) ∙ c .answer .ensures ∙ refused .0, refused .1)
 
@@ -39,11 +33,11 @@ answer-requires-2 c κs = search needs
 returns-2 : tie.Need-returns-2
 returns-2 c =
     let asked = c .before .before .before .before in
-    let start = asked .before .before .before in
+    let start = asked .before .before in
     let sheet = start .args .sheet .now in
     let place = start .args .place in
     let out = start .args .out .now in
-    let same = c .before .before .before .first .ensures ∙ place-asked sheet _ (asked .before .read .ensures) place _ (asked .response-time .ensures) in
+    let same = place-asked sheet place _ (asked .time-in .ensures) in
     let refused = refused-slack sheet place out 11 (λ e. omega arith) (no-room sheet place out (sym same ∙ c .before .before .if1 .left) (c .before .if2 .taken)) in
     (handed (c .answer2 .result) (c .answer2 .ok) ∙ c .answer2 .ensures ∙ refused .0, refused .1)
 
@@ -61,16 +55,15 @@ returns-3 c =
     let room = c .before .before .before .before .before in
     let fine = room .before .if1 .left in
     let asked = room .before .before .before in
-    let start = asked .before .before .before in
+    let start = asked .before .before in
     let sheet = start .args .sheet .now in
     let place = start .args .place in
     let out = start .args .out .now in
-    let read = asked .before .read .ensures in
-    let same = room .before .before .first .ensures ∙ place-asked sheet _ read place _ (asked .response-time .ensures) in
-    let entry = entry-asked sheet _ read place _ (asked .response-time .ensures) (sym same ∙ fine) in
+    let same = place-asked sheet place _ (asked .time-in .ensures) in
+    let entry = entry-asked sheet place _ (asked .time-in .ensures) (sym same ∙ fine) in
     let given = given-slack sheet place out _ (room-there sheet place out (sym same ∙ fine) (room .if2 .left)) (ap (λ (e : Entry). e .slack) entry) in
     let put = c .before .before .put-figure .ensures in
     (handed (c .answer3 .result) (c .answer3 .ok) ∙ c .answer3 .ensures ∙ ap (answerOf 0) (put .0) ∙ given .0, put .1 .1 ∙ given .1)
 
 pub fq-slack-spec : {M : Type 1} → statement M
-fq-slack-spec = tie.close (tie.spec read-requires response-time-requires first-requires answer-requires returns answer-requires-2 returns-2 put-figure-requires answer-requires-3 same-length returns-3)
+fq-slack-spec = tie.close (tie.spec time-in-requires answer-requires returns answer-requires-2 returns-2 put-figure-requires answer-requires-3 same-length returns-3)

@@ -1,14 +1,13 @@
 -- What `start`, `replay` and `check` answer, from what their parts answered. Assumes nothing.
-use Prim.Native.Nat.{ℕ, _/_, _%_}
-use mathlib.Core.Path.{_≡_, refl, sym, ap, subst, _∙_}
+use Prim.Native.Nat.{ℕ, _%_}
+use mathlib.Core.Path.{_≡_, refl, sym, ap, _∙_}
 use mathlib.Core.Bool.{Bool, true, false, cond}
 use mathlib.Core.List.{List}
-use native.Mathlib.Omega.{arith}
 use borrow.Author.Tests.{eq-eqb, ne-eqb}
 use lib.Dec.{eqb}
 use lib.ListN.{length}
 use Rattle.places.specs.Places.{oneIf, countBelow}
-use Rattle.places.proofs.Refusals.{next-of, first-of}
+use Rattle.places.proofs.Refusals.{next-of}
 use Rattle.sheet.specs.declared.Reading.{Reading}
 use Rattle.sheet.specs.Layout.{tableOf}
 use Rattle.sheet.specs.Rules.{wholeSheetRefusal}
@@ -17,17 +16,14 @@ use Rattle.sheet.proofs.Whole.{whole-refusal, whole-table}
 use Rattle.replay.specs.declared.Counts.{Counts}
 use Rattle.replay.specs.declared.Machine.{Machine}
 use Rattle.replay.specs.declared.Run.{Run}
-use Rattle.replay.specs.declared.Checked.{Checked}
-use Rattle.replay.specs.declared.Checked.the-variants.{Refused}
 use Rattle.replay.specs.Ticks.Cells.{cellAt, isReady}
 use Rattle.replay.specs.Ticks.Counts.{noCounts, unfinishedIn, countsFrom}
 use Rattle.replay.specs.Ticks.Machines.{machineOf, noMachine, IsTied, tied, countsOf}
 use Rattle.replay.specs.Logs.Over.{ranOver}
 use Rattle.replay.specs.Logs.Rules.{logRefusal}
-use Rattle.replay.specs.Logs.Shown.{logIn, logOf, matching, suppliedRefusal}
-use Rattle.replay.specs.Logs.Answers.{startAnswer, goOnAnswer, replayRefusal, replayAnswer, compared, suppliedAnswer, checkRefusal, checkAnswer}
+use Rattle.replay.specs.Logs.Shown.{logIn, suppliedRefusal}
+use Rattle.replay.specs.Logs.Answers.{startAnswer, goOnAnswer, replayRefusal, replayAnswer}
 use Rattle.replay.proofs.OfTicks.Ready.{started-tied, none-tied, tied-same}
-use Rattle.replay.proofs.OfLogs.Matched.{compared-refused}
 
 module _ (sheet : List ℕ) (reading : Reading) (read : reading ≡ wholeAnswer sheet) where
   pub start-refused : (none : Machine) → (reading .refusal ≡ 0 → ⊥) → none ≡ noMachine → record { refusal = reading .refusal; machine = none } ≡ startAnswer sheet
@@ -51,9 +47,6 @@ start-tied sheet = go (eqb (wholeSheetRefusal sheet) 0)
     go true = started-tied (tableOf sheet)
     go false = none-tied
 
-pub machine-tied : (sheet : List ℕ) (started : Run) → started ≡ startAnswer sheet → IsTied (started .machine)
-machine-tied sheet started start = subst (λ (r : Run). IsTied (r .machine)) (sym start) (start-tied sheet)
-
 -- a machine of zeros has counted nothing
 pub none-counted : countsOf noMachine ≡ noCounts
 unfolding countsOf countsFrom unfinishedIn countBelow cellAt isReady oneIf
@@ -63,13 +56,6 @@ module _ (sheet log : List ℕ) (started : Run) (start : started ≡ startAnswer
   start-refusal : started .refusal ≡ wholeSheetRefusal sheet
   unfolding startAnswer
   start-refusal = ap (λ (r : Run). r .refusal) start
-
-  pub replay-refused : (counts : Counts) → (started .refusal ≡ 0 → ⊥) → counts ≡ countsOf (started .machine) → record { refusal = started .refusal; counts = counts } ≡ replayAnswer sheet log
-  unfolding replayAnswer replayRefusal startAnswer
-  replay-refused counts broken counted =
-      let bad : wholeSheetRefusal sheet ≡ 0 → ⊥ = λ e. broken (start-refusal ∙ e) in
-      let none : started .machine ≡ noMachine = ap (λ (r : Run). r .machine) start ∙ ap (λ (b : Bool). cond b (machineOf (tableOf sheet)) noMachine) (ne-eqb (wholeSheetRefusal sheet) 0 bad) in
-      simp (first-of (wholeSheetRefusal sheet) (logRefusal (machineOf (tableOf sheet)) log) bad, ne-eqb (wholeSheetRefusal sheet) 0 bad, counted ∙ ap countsOf none ∙ none-counted, start-refusal)
 
   module _ (passed : started .refusal ≡ 0) where
     good : wholeSheetRefusal sheet ≡ 0
@@ -95,20 +81,6 @@ module _ (sheet log : List ℕ) (started : Run) (start : started ≡ startAnswer
           let said : counts ≡ cond (eqb (logRefusal m log) 0) (countsOf (ranOver m log)) noCounts = counted ∙ ap (λ (r : Run). countsOf (r .machine)) answered ∙ pick-counts (eqb (logRefusal m log) 0) (ranOver (tied m) log) ∙ ap (λ (m′ : Machine). cond (eqb (logRefusal m log) 0) (countsOf (ranOver m′ log)) noCounts) (tied-same m (started-tied (tableOf sheet))) in
           simp (next-of (logRefusal m log) good) (λ i. record { refusal = refusal i; counts = said i })
 
-  -- a record that is refused for its sheet, or else answered by the sheet's machine
-  pub check-refused : (started .refusal ≡ 0 → ⊥) → Refused (started .refusal) ≡ checkAnswer sheet log
-  unfolding checkAnswer checkRefusal
-  check-refused broken =
-      let bad : wholeSheetRefusal sheet ≡ 0 → ⊥ = λ e. broken (start-refusal ∙ e) in
-      let first = first-of (wholeSheetRefusal sheet) (suppliedRefusal (machineOf (tableOf sheet)) log) bad in
-      ap Refused (start-refusal ∙ sym first) ∙ sym (compared-refused _ _ _ (λ e. bad (sym first ∙ e)))
-
-  pub check-gone : started .refusal ≡ 0 → (answer : Checked) → answer ≡ suppliedAnswer (started .machine) log → answer ≡ checkAnswer sheet log
-  unfolding suppliedAnswer checkAnswer checkRefusal
-  check-gone passed answer e =
-      e ∙ ap (λ (m : Machine). suppliedAnswer m log) (machine-started passed)
-      ∙ ap (λ (r : ℕ). compared r (length log / 3) (matching (machineOf (tableOf sheet)) log)) (sym (next-of _ (good passed)))
-
 -- the refusal of a record: 14, or that of the log it contains
 module _ (m : Machine) (supplied : List ℕ) where
   pub supplied-cut : (length supplied % 3 ≡ 0 → ⊥) → suppliedRefusal m supplied ≡ 14
@@ -118,11 +90,3 @@ module _ (m : Machine) (supplied : List ℕ) where
   pub supplied-log : length supplied % 3 ≡ 0 → suppliedRefusal m supplied ≡ logRefusal m (logIn supplied)
   unfolding suppliedRefusal
   supplied-log whole = simp (eq-eqb (length supplied % 3) 0 whole)
-
-  pub record-cut : (length supplied % 3 ≡ 0 → ⊥) → Refused 14 ≡ suppliedAnswer m supplied
-  unfolding suppliedAnswer
-  record-cut cut = sym (ap (λ (r : ℕ). compared r (length supplied / 3) (matching m supplied)) (supplied-cut cut) ∙ compared-refused 14 _ _ (λ e. omega arith))
-
-  pub record-compared : length supplied % 3 ≡ 0 → (run : Run) → run ≡ goOnAnswer m (logOf 3 supplied) → (same : ℕ) → same ≡ matching m supplied → compared (run .refusal) (length supplied / 3) same ≡ suppliedAnswer m supplied
-  unfolding suppliedAnswer goOnAnswer logOf
-  record-compared whole run gone same is = λ i. compared ((ap (λ (r : Run). r .refusal) gone ∙ sym (supplied-log whole)) i) (length supplied / 3) (is i)

@@ -70,48 +70,25 @@ module _ (f : Following) (r a byte : ℕ) where
 
 -- whole ticks of a log and of a record
 module _ (f : Following) (first : f .holds ≡ 0) (r a : ℕ) where
-  log-tick : f .«is_record» ≡ false → (rest : List ℕ) → followed f (r ∷ a ∷ rest) ≡ followed (afterTick f r a a) rest
+  pub log-tick : f .«is_record» ≡ false → (rest : List ℕ) → followed f (r ∷ a ∷ rest) ≡ followed (afterTick f r a a) rest
   unfolding followed holding
   log-tick kind rest =
       ap (λ (g : Following). followed (stepped g a) rest) (step-releases f r first)
       ∙ ap (λ (g : Following). followed g rest) (step-log (holding f 1 r 0) a (λ e. omega arith) kind)
 
-  record-tick : f .«is_record» ≡ true → (byte : ℕ) (rest : List ℕ) → followed f (r ∷ a ∷ byte ∷ rest) ≡ followed (afterTick f r a byte) rest
+  pub record-tick : f .«is_record» ≡ true → (byte : ℕ) (rest : List ℕ) → followed f (r ∷ a ∷ byte ∷ rest) ≡ followed (afterTick f r a byte) rest
   unfolding followed holding
   record-tick kind byte rest =
       ap (λ (g : Following). followed (stepped (stepped g a) byte) rest) (step-releases f r first)
       ∙ ap (λ (g : Following). followed (stepped g byte) rest) (step-faults (holding f 1 r 0) a (λ e. omega arith) kind refl)
       ∙ ap (λ (g : Following). followed g rest) (step-ran (holding f 2 r a) byte (λ e. omega arith) kind (λ e. omega arith))
 
--- one byte, or a whole tick, taken at once
+-- one byte taken at once
 pub one-taken : (f : Following) (bytes : List ℕ) → length bytes ≡ 1 → stepped f (getD bytes 0 0) ≡ followed f bytes
 unfolding followed
 one-taken f [] one = absurd (omega arith)
 one-taken f (byte ∷ []) one = refl
 one-taken f (byte ∷ b ∷ bytes) one = absurd (omega arith)
-
-module _ (f : Following) (first : f .holds ≡ 0) where
-  log-taken : f .«is_record» ≡ false → (bytes : List ℕ) → length bytes ≡ 2 → afterTick f (getD bytes 0 0) (getD bytes 1 0) (getD bytes (length bytes - 1) 0) ≡ followed f bytes
-  unfolding followed
-  log-taken kind [] two = absurd (omega arith)
-  log-taken kind (r ∷ []) two = absurd (omega arith)
-  log-taken kind (r ∷ a ∷ []) two = sym (log-tick f first r a kind [])
-  log-taken kind (r ∷ a ∷ byte ∷ bytes) two = absurd (omega arith)
-
-  record-taken : f .«is_record» ≡ true → (bytes : List ℕ) → length bytes ≡ 3 → afterTick f (getD bytes 0 0) (getD bytes 1 0) (getD bytes (length bytes - 1) 0) ≡ followed f bytes
-  unfolding followed
-  record-taken kind [] three = absurd (omega arith)
-  record-taken kind (r ∷ []) three = absurd (omega arith)
-  record-taken kind (r ∷ a ∷ []) three = absurd (omega arith)
-  record-taken kind (r ∷ a ∷ byte ∷ []) three = sym (record-tick f first r a kind byte [])
-  record-taken kind (r ∷ a ∷ byte ∷ b ∷ bytes) three = absurd (omega arith)
-
-  pub tick-taken : (bytes : List ℕ) → length bytes ≡ cond (f .«is_record») 3 2 → afterTick f (getD bytes 0 0) (getD bytes 1 0) (getD bytes (length bytes - 1) 0) ≡ followed f bytes
-  tick-taken bytes whole = go (f .«is_record») refl
-    where
-      go : (b : Bool) → f .«is_record» ≡ b → afterTick f (getD bytes 0 0) (getD bytes 1 0) (getD bytes (length bytes - 1) 0) ≡ followed f bytes
-      go true kind = record-taken kind bytes (whole ∙ ap (λ (b : Bool). cond b 3 2) kind)
-      go false kind = log-taken kind bytes (whole ∙ ap (λ (b : Bool). cond b 3 2) kind)
 
 -- how many bytes are held
 pub log-holds : (f : Following) → f .holds ≡ 0 → f .«is_record» ≡ false → (log : List ℕ) → followed f log .holds ≡ length log % 2

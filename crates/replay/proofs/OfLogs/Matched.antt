@@ -6,7 +6,7 @@ use native.Mathlib.Nat.{not-suc-le-zero}
 use native.Mathlib.Decide.{ℕ-discrete}
 use native.Mathlib.Omega.{arith}
 use borrow.Author.Tests.{eq-eqb, ne-eqb}
-use lib.ListN.{length, getD, drop}
+use lib.ListN.{length, getD}
 use Rattle.replay.specs.declared.Machine.{Machine}
 use Rattle.replay.specs.declared.Checked.{Checked}
 use Rattle.replay.specs.declared.Checked.the-variants.{Refused, Accepted, Differs}
@@ -15,7 +15,6 @@ use Rattle.replay.specs.Logs.Positions.{releasesAt}
 use Rattle.replay.specs.Logs.Shown.{logIn, shown, matching}
 use Rattle.replay.specs.Logs.Answers.{compared}
 use Rattle.replay.specs.Logs.Totals.{machineAt}
-use Rattle.replay.proofs.OfLogs.Going.{three-bytes}
 use Rattle.replay.proofs.OfLogs.History.{releases-shift, machine-shift}
 
 -- the first tick of a record decides whether any is counted
@@ -27,26 +26,6 @@ module _ (m : Machine) (r f ran : ℕ) (supplied : List ℕ) where
   pub none-match : (ran ≡ shown m r → ⊥) → matching m (r ∷ f ∷ ran ∷ supplied) ≡ 0
   unfolding matching
   none-match other = simp (ne-eqb ran (shown m r) other)
-
--- the tick at an index of a record
-module _ (m : Machine) (supplied : List ℕ) (at : ℕ) (more : at + 3 ≤ length supplied) where
-  abbrev shownThere : ℕ
-  shownThere = shown m (getD supplied at 0)
-
-  pub match-on : (next : Machine) → getD supplied (at + 2) 0 ≡ shownThere → next ≡ tick m (getD supplied at 0) (getD supplied (at + 1) 0) → matching m (drop at supplied) ≡ matching next (drop (at + 3) supplied) + 1
-  match-on next same e =
-      ap (matching m) (three-bytes supplied at more) ∙ more-match m _ _ _ (drop (at + 3) supplied) same ∙ ap (λ (m′ : Machine). matching m′ (drop (at + 3) supplied) + 1) (sym e)
-
-  pub match-ends : (getD supplied (at + 2) 0 ≡ shownThere → ⊥) → matching m (drop at supplied) ≡ 0
-  match-ends other = ap (matching m) (three-bytes supplied at more) ∙ none-match m _ (getD supplied (at + 1) 0) _ (drop (at + 3) supplied) other
-
--- what is less than a tick shows none
-pub match-short : (m : Machine) (rest : List ℕ) → length rest < 3 → matching m rest ≡ 0
-unfolding matching
-match-short m [] short = refl
-match-short m (r ∷ []) short = refl
-match-short m (r ∷ f ∷ []) short = refl
-match-short m (r ∷ f ∷ ran ∷ rest) short = absurd (omega arith)
 
 -- the byte that the tick at a time shows, and the one that it must show, the machine having gone over the log before it
 abbrev pub ranAt : List ℕ → ℕ → ℕ

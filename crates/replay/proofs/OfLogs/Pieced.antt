@@ -161,3 +161,12 @@ log-in-pieces sheet pieces = ap replayedAnswer (all-joined (beforeLog sheet) pie
 pub record-in-pieces : (sheet : List ℕ) (pieces : List (List ℕ)) → length (joined pieces) / 3 < 2 ^ 64 → checkedAnswer (allTaken (beforeRecord sheet) pieces) ≡ checkAnswer sheet (joined pieces)
 unfolding beforeRecord
 record-in-pieces sheet pieces few = ap checkedAnswer (all-joined (beforeRecord sheet) pieces (begun-tied true sheet)) ∙ record-followed sheet (joined pieces) few
+
+-- the whole at once is one piece
+pub log-whole : (sheet log : List ℕ) → replayedAnswer (takenAnswer (beforeLog sheet) log) ≡ replayAnswer sheet log
+unfolding takenAnswer beforeLog
+log-whole sheet log = ap (λ (f : Following). replayedAnswer (followed f log)) (tied-in-same (beforeLog sheet) (begun-tied false sheet)) ∙ log-followed sheet log
+
+pub record-whole : (sheet supplied : List ℕ) → length supplied / 3 < 2 ^ 64 → checkedAnswer (takenAnswer (beforeRecord sheet) supplied) ≡ checkAnswer sheet supplied
+unfolding takenAnswer beforeRecord
+record-whole sheet supplied few = ap (λ (f : Following). checkedAnswer (followed f supplied)) (tied-in-same (beforeRecord sheet) (begun-tied true sheet)) ∙ record-followed sheet supplied few

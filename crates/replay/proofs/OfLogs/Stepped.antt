@@ -1,5 +1,5 @@
 -- What is kept of a log or a record after one byte more, after a whole tick and after a piece, and the answer at the end, case by case. Assumes nothing.
-use Prim.Native.Nat.{ℕ, _+_, _-_, _≤_}
+use Prim.Native.Nat.{ℕ, _+_, _-_, _%_, _≤_}
 use mathlib.Core.Path.{_≡_, refl, sym, ap, _∙_}
 use mathlib.Core.Bool.{Bool, true, false, cond}
 use mathlib.Core.Logic.{inl, inr}
@@ -111,21 +111,10 @@ module _ (f : Following) (part : List ℕ) (at : ℕ) where
   unfolding followed
   take-none all = sym (ap (followed f) (drop-of-length-le part all))
 
--- bytes that are taken at once and not one are a whole tick
-module _ (isRecord : Bool) (holds count : ℕ) (once : AtOnce isRecord holds count) (more : count ≡ 1 → ⊥) where
-  pub whole-tick : (holds ≡ 0) × (count ≡ cond isRecord 3 2)
-  whole-tick = go once
-    where
-      go : AtOnce isRecord holds count → (holds ≡ 0) × (count ≡ cond isRecord 3 2)
-      go (inl one) = absurd (more one)
-      go (inr whole) = whole
-
-  pub two-at-least : 2 ≤ count
-  two-at-least = go isRecord (whole-tick .1)
-    where
-      go : (b : Bool) → count ≡ cond b 3 2 → 2 ≤ count
-      go true e = omega (arith, e)
-      go false e = omega (arith, e)
+-- bytes that are taken at once and not one are whole ticks
+pub whole-ticks : (isRecord : Bool) (holds count : ℕ) → AtOnce isRecord holds count → (count ≡ 1 → ⊥) → (holds ≡ 0) × (1 ≤ count) × (count % cond isRecord 3 2 ≡ 0)
+whole-ticks isRecord holds count (inl one) more = absurd (more one)
+whole-ticks isRecord holds count (inr whole) more = whole
 
 -- the answers
 module _ (f : Following) (refusal : ℕ) (is : refusal ≡ refusalAt f) where

@@ -2,15 +2,14 @@
 use Prim.Native.Nat.{ℕ, _<_}
 use mathlib.Core.Path.{_≡_, sym, _∙_}
 use mathlib.Core.List.{List}
-use native.Mathlib.Decide.{ℕ-discrete}
 use native.Mathlib.Omega.{arith}
-use lib.ListN.{length, set, replicate, length-set}
-use lib.Seq.{ext-getD, getD-set-same, getD-set-other}
+use lib.ListN.{length, replicate}
+use lib.Seq.{ext-getD}
 use Rattle.places.proofs.Filled.{length-filled, filled-at}
 use Rattle.replay.specs.declared.Cell.{Cell}
 use Rattle.replay.specs.Ticks.Cells.{noCell, cellAt, eight}
 
-length-eight : (f : ℕ → Cell) → length (eight f) ≡ 8
+pub length-eight : (f : ℕ → Cell) → length (eight f) ≡ 8
 unfolding eight
 length-eight f = length-filled f 8 (replicate 8 noCell)
 
@@ -22,12 +21,3 @@ cell-eight f k below = filled-at f 8 (replicate 8 noCell) noCell (omega arith) k
 pub eight-same : (cells : List Cell) (f : ℕ → Cell) → length cells ≡ 8 → ((k : ℕ) → k < 8 → cellAt cells k ≡ f k) → cells ≡ eight f
 unfolding cellAt
 eight-same cells f long each = ext-getD noCell cells (eight f) (long ∙ sym (length-eight f)) (λ k below. each k (omega arith) ∙ sym (cell-eight f k (omega arith)))
-
--- a store at one slot
-pub eight-store : (cells : List Cell) (j : ℕ) (cell : Cell) (f : ℕ → Cell) → length cells ≡ 8 → j < 8 → cell ≡ f j → ((k : ℕ) → k < 8 → (k ≡ j → ⊥) → cellAt cells k ≡ f k) → set cells j cell ≡ eight f
-unfolding cellAt
-eight-store cells j cell f long low here others = eight-same (set cells j cell) f (length-set cells j cell ∙ long) (λ k below. go k below (ℕ-discrete k j))
-  where
-    go : (k : ℕ) → k < 8 → Dec (k ≡ j) → cellAt (set cells j cell) k ≡ f k
-    go k below (yes e) = rw e (getD-set-same cells j cell noCell (omega arith) ∙ here)
-    go k below (no e) = getD-set-other cells j k cell noCell e ∙ others k below e

@@ -1,5 +1,5 @@
 -- The ready priorities: kept through a tick in which no job comes or goes, those of the jobs after every tick, and of no weight in what is refused. Assumes nothing.
-use Prim.Native.Nat.{ℕ, _+_, _-_, _%_, _<_}
+use Prim.Native.Nat.{ℕ, zero, suc, _+_, _-_, _%_, _<_}
 use mathlib.Core.Path.{_≡_, refl, sym, ap, ap₂, fun-ext, _∙_}
 use mathlib.Core.Bool.{Bool, true, false, cond, not, _&&_, _||_}
 use mathlib.Core.List.{List, [], _∷_}
@@ -8,7 +8,7 @@ use borrow.Author.Tests.{eqb-true, eqb-false, ne-eqb, not-false}
 use lib.Count.{leadingZeros}
 use lib.Dec.{eqb}
 use lib.ListN.{length}
-use Rattle.places.specs.Places.{someBelow, oneIf}
+use Rattle.places.specs.Places.{someBelow, oneIf, highestBelow}
 use Rattle.places.specs.Refusals.{orElse}
 use Rattle.places.proofs.Tells.{neither}
 use Rattle.places.proofs.Agree.{some-agree}
@@ -21,17 +21,17 @@ use Rattle.replay.specs.declared.Tally.{Tally}
 use Rattle.replay.specs.declared.Machine.{Machine}
 use Rattle.replay.specs.Ticks.Tick.{isMarked}
 use Rattle.replay.specs.Ticks.Cells.{noCell, cellAt, isReady}
-use Rattle.replay.specs.Ticks.Runner.{priorityOf, isAt, topPriority}
+use Rattle.replay.specs.Ticks.Runner.{priorityOf, isAt, topPriority, topBackup, runner}
 use Rattle.replay.specs.Ticks.Ready.{bitsOf, readyPriorities}
-use Rattle.replay.specs.Ticks.Step.{released, entered, runs, worked, struck, isLast, isMissed, ended}
+use Rattle.replay.specs.Ticks.Step.{runs, worked, struck, isLast, isMissed, ended}
 use Rattle.replay.specs.Ticks.Counts.{cellOf, gains}
 use Rattle.replay.specs.Ticks.Machines.{machineOf, noMachine, IsTied, tied, cellsEntered, runnerOf, cellsRan, cellsEnded, tickGains, tick}
 use Rattle.replay.specs.Logs.Over.{ranOver}
 use Rattle.replay.specs.Logs.Rules.{tickRefusal, ticksRefusal, logRefusal}
-use Rattle.replay.proofs.OfTicks.Binary.{highest-zeros, none-released}
+use Rattle.replay.proofs.OfTicks.Binary.{highest-zeros}
 use Rattle.replay.proofs.OfTicks.Eight.{cell-eight}
 use Rattle.replay.proofs.OfTicks.Struck.{others-kept, runner-changed}
-use Rattle.replay.proofs.OfTicks.Ticked.{entered-at, ran-at}
+use Rattle.replay.proofs.OfTicks.Ticked.{ran-at}
 
 -- two cells are alike to the ready priorities: a job is ready in both or in neither, at the same priority
 record Alike (a b : Cell) : Type 0 where
@@ -44,11 +44,18 @@ alike-same e = record { backup = ap (λ (c : Cell). c .«is_backup») e; ready =
 alike-on : {a b c : Cell} → Alike a b → Alike b c → Alike a c
 alike-on p q = record { backup = p .backup ∙ q .backup; ready = p .ready ∙ q .ready }
 
-priorities-alike : (tasks : List Record) (a b : List Cell) → ((slot : ℕ) → slot < 8 → Alike (cellAt a slot) (cellAt b slot)) → readyPriorities tasks a ≡ readyPriorities tasks b
-unfolding readyPriorities isAt priorityOf
-priorities-alike tasks a b each =
-    ap (λ (t : ℕ → Bool). bitsOf t 8)
-    (fun-ext (λ below. some-agree 8 (λ slot low. ap₂ (λ (backup ready : Bool). ready && eqb (cond backup (recordAt tasks slot .«fault_priority») (slot + 1)) (below + 1)) (each slot low .backup) (each slot low .ready))))
+highest-agree : {f g : ℕ → Bool} (n : ℕ) → ((k : ℕ) → k < n → f k ≡ g k) → highestBelow f n ≡ highestBelow g n
+unfolding highestBelow
+highest-agree zero same = refl
+highest-agree (suc n) same = ap₂ (λ (b : Bool) (k : ℕ). cond b (n + 1) k) (same n (omega arith)) (highest-agree n (λ k below. same k (omega arith)))
+
+runner-alike : (tasks : List Record) (a b : List Cell) → ((slot : ℕ) → slot < 8 → Alike (cellAt a slot) (cellAt b slot)) → runner (recordAt tasks) (cellAt a) ≡ runner (recordAt tasks) (cellAt b)
+unfolding runner topPriority topBackup isAt priorityOf
+runner-alike tasks a b each =
+    ap₂ (λ (backup : ℕ → ℕ) (top : ℕ). cond (eqb (backup top) 0) top (backup top))
+    (fun-ext (λ priority. highest-agree 8 (λ slot low. ap₂ (λ (backup ready : Bool). backup && (ready && eqb (cond backup (recordAt tasks slot .«fault_priority») (slot + 1)) priority)) (each slot low .backup) (each slot low .ready))))
+    (ap (λ (t : ℕ → Bool). highestBelow t 8)
+    (fun-ext (λ below. some-agree 8 (λ slot low. ap₂ (λ (backup ready : Bool). ready && eqb (cond backup (recordAt tasks slot .«fault_priority») (slot + 1)) (below + 1)) (each slot low .backup) (each slot low .ready)))))
 
 -- a job that has work left after its tick was ready before it
 still-ready : (cell : Cell) → eqb (worked cell .left) 0 ≡ false → Alike cell (worked cell)
@@ -65,13 +72,6 @@ end-alike cell kept = record { backup = refl; ready = go (isLast cell) kept }
     go false e = refl
 
 module _ (m : Machine) (releases : ℕ) where
-  -- where nothing is released, the priorities stay
-  pub none-entered : not (eqb releases 0) ≡ false → IsTied m → m .ready ≡ readyPriorities (m .tasks) (cellsEntered m releases)
-  unfolding entered
-  none-entered none keeps =
-      keeps
-      ∙ priorities-alike (m .tasks) (m .cells) (cellsEntered m releases) (λ slot low. alike-same (sym (entered-at m releases slot low ∙ ap (λ (b : Bool). cond b (released (recordAt (m .tasks) slot)) (cellAt (m .cells) slot)) (none-released releases (eqb-true releases 0 (not-false _ none)) slot))))
-
   module _ (faults : ℕ) (unmarked : isMarked faults ≡ false) (unfinished : tickGains m releases faults .finished ≡ 0) (unmissed : tickGains m releases faults .missed ≡ 0) where
     -- the task that runs is not done
     not-done : (slot : ℕ) → slot + 1 ≡ runnerOf m releases → eqb (cellAt (cellsRan m releases faults) slot .left) 0 ≡ false
@@ -106,12 +106,14 @@ module _ (m : Machine) (releases : ℕ) where
             ∙ ap (λ (b : Bool). cond b (struck (recordAt (m .tasks) slot) (worked cell)) (worked cell)) unmarked in
             alike-on (still-ready cell (sym (ap (λ (c : Cell). eqb (c .left) 0) now) ∙ not-done slot (eqb-true _ _ e))) (alike-same (sym now))
 
-    -- where no job is struck, done or dropped, the priorities stay
-    pub none-gone : readyPriorities (m .tasks) (cellsEntered m releases) ≡ readyPriorities (m .tasks) (cellsEnded m releases faults)
+    -- where no job is struck, done or dropped, each cell is alike before and after
+    gone-alike : (slot : ℕ) → slot < 8 → Alike (cellAt (cellsEntered m releases) slot) (cellAt (cellsEnded m releases faults) slot)
     unfolding tickGains gains
-    none-gone =
-        priorities-alike (m .tasks) (cellsEntered m releases) (cellsEnded m releases faults)
-        (λ slot low. alike-on (ran-alike slot low) (alike-on (end-alike _ (count-zero (λ slot. isMissed (cellAt (cellsRan m releases faults) slot)) 8 unmissed slot low)) (alike-same (sym (cell-eight _ slot low)))))
+    gone-alike slot low = alike-on (ran-alike slot low) (alike-on (end-alike _ (count-zero (λ slot. isMissed (cellAt (cellsRan m releases faults) slot)) 8 unmissed slot low)) (alike-same (sym (cell-eight _ slot low))))
+
+    -- and so does the task that runs
+    pub none-other : runner (recordAt (m .tasks)) (cellAt (cellsEntered m releases)) ≡ runner (recordAt (m .tasks)) (cellAt (cellsEnded m releases faults))
+    none-other = runner-alike (m .tasks) (cellsEntered m releases) (cellsEnded m releases faults) gone-alike
 
 -- "the highest is found by counting leading zeros"
 pub highest-priority : (tasks : List Record) (cells : List Cell) → 8 - leadingZeros 8 (readyPriorities tasks cells) ≡ topPriority (recordAt tasks) (cellAt cells)

@@ -1,20 +1,29 @@
--- `replay::check` meets its contract. Assumes nothing.
-use Rattle.replay.proofs.OfLogs.Answered.{machine-tied, check-refused, check-gone}
+-- `replay::check` meets its contract: a record is one piece. Assumes nothing.
+use mathlib.Core.Path.{ap, _∙_}
+use native.Mathlib.Omega.{arith}
+use Rattle.replay.specs.declared.Following.{Following}
+use Rattle.replay.specs.Logs.Pieces.{takenAnswer, checkedAnswer}
+use Rattle.replay.proofs.OfLogs.Pieced.{record-whole}
 use borrow.Author.Needs.{needs}
 use Rattle.replay.proofs.check.Statement.{statement}
 use Rattle.replay.proofs.check.Tie as tie
 
-start-requires : tie.Need-start-requires
-start-requires c κs = search needs
+record-requires : tie.Need-record-requires
+record-requires c κs = search needs
+
+take-requires : tie.Need-take-requires
+take-requires c κs = search needs
+
+checked-requires : tie.Need-checked-requires
+checked-requires c κs = search needs
 
 returns : tie.Need-returns
-returns c = check-refused _ _ _ (c .before .before .start .ensures) (c .if1 .taken)
-
-check-record-requires : tie.Need-check-record-requires
-check-record-requires c κs = machine-tied _ _ (c .before .before .start .ensures)
-
-returns-2 : tie.Need-returns-2
-returns-2 c = check-gone _ _ _ (c .before .before .before .start .ensures) (c .before .if1 .left) _ (c .check-record .ensures)
+returns c =
+    let begun = c .before .before in
+    let start = begun .before .before .before in
+    let given = start .args in
+    c .checked .ensures ∙ ap checkedAnswer (c .before .take .ensures ∙ ap (λ (f : Following). takenAnswer f (given .supplied .now)) (begun .«record» .ensures))
+    ∙ record-whole (given .sheet .now) (given .supplied .now) (omega (arith, start .good .1 .0 .0))
 
 pub check-spec : {M : Type 1} → statement M
-check-spec = tie.close (tie.spec start-requires returns check-record-requires returns-2)
+check-spec = tie.close (tie.spec record-requires take-requires checked-requires returns)

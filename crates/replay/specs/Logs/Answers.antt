@@ -42,10 +42,6 @@ replayAnswer sheet log =
 unfoldable pub compared : ℕ → ℕ → ℕ → Checked
 compared refusal ticks same = cond (eqb refusal 0) (cond (eqb same ticks) Accepted (Differs same)) (Refused refusal)
 
--- what a machine says of a record that starts with it
-unfoldable pub suppliedAnswer : Machine → List ℕ → Checked
-suppliedAnswer m supplied = compared (suppliedRefusal m supplied) (length supplied / 3) (matching m supplied)
-
 -- the refusal of a record, "over the whole record first": the sheet's, its own or 19, then the record's
 unfoldable pub checkRefusal : List ℕ → List ℕ → ℕ
 checkRefusal sheet supplied = orElse (wholeSheetRefusal sheet) (suppliedRefusal (machineOf (tableOf sheet)) supplied)

@@ -1,5 +1,5 @@
 -- "Logs and records of any length, read in pieces, in constant memory": what is kept of the bytes so far, byte by byte, and the answer at their end. No part of it knows where a piece ends.
-use Prim.Native.Nat.{ℕ}
+use Prim.Native.Nat.{ℕ, _%_, _≤_}
 use mathlib.Core.Path.{_≡_}
 use mathlib.Core.Bool.{Bool, true, false, cond, not, _&&_, _||_}
 use mathlib.Core.Logic.{_⊎_}
@@ -112,9 +112,9 @@ stepped f byte =
     (cond (eqb (f .holds) 1) (holding f 2 (f .releases) byte) (afterTick f (f .releases) (f .faults) byte))
     (afterTick f (f .releases) byte byte))
 
--- so many bytes to be taken at once: a whole tick where none is held, or one. An inner device of the loop over a piece.
+-- so many bytes to be taken at once: one, or where none is held those of whole ticks. An inner device of the loop over a piece.
 abbrev pub AtOnce : Bool → ℕ → ℕ → Type 0
-AtOnce isRecord holds bytes = (bytes ≡ 1) ⊎ ((holds ≡ 0) × (bytes ≡ cond isRecord 3 2))
+AtOnce isRecord holds bytes = (bytes ≡ 1) ⊎ ((holds ≡ 0) × (1 ≤ bytes) × (bytes % cond isRecord 3 2 ≡ 0))
 
 -- the bytes of a piece, one after the other
 unfoldable pub followed : Following → List ℕ → Following

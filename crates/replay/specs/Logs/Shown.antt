@@ -16,10 +16,6 @@ logIn (releases ∷ []) = []
 logIn (releases ∷ faults ∷ []) = []
 logIn (releases ∷ faults ∷ ran ∷ supplied) = releases ∷ faults ∷ logIn supplied
 
--- the log in ticks of two bytes, which are a log, or of three, a record: an inner device of the one loop over both
-unfoldable pub logOf : ℕ → List ℕ → List ℕ
-logOf width bytes = cond (eqb width 2) bytes (logIn bytes)
-
 -- "the priority of the task that ran, 0 for idle, with the top bit set for a backup": what the machine's next tick must show
 unfoldable pub shown : Machine → ℕ → ℕ
 shown m releases = runnerOf m releases + cond (cellOf (cellsEntered m releases) (runnerOf m releases) .«is_backup») 128 0

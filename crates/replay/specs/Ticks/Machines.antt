@@ -45,6 +45,10 @@ IsTied m = m .ready ≡ readyPriorities (m .tasks) (m .cells)
 unfoldable pub tied : Machine → Machine
 tied m = record { count = m .count; interval = m .interval; tasks = m .tasks; cells = m .cells; ready = readyPriorities (m .tasks) (m .cells); gap = m .gap; tally = m .tally }
 
+-- a machine with other cells and their ready priorities, other ticks until the next legal fault and another tally: an inner device of the loop over a log
+unfoldable pub machineWith : Machine → List Cell → ℕ → Tally → Machine
+machineWith m cells gap tally = record { count = m .count; interval = m .interval; tasks = m .tasks; cells = cells; ready = readyPriorities (m .tasks) cells; gap = gap; tally = tally }
+
 -- "Each tick: releases come in"
 unfoldable pub cellsEntered : Machine → ℕ → List Cell
 cellsEntered m releases = eight (entered (recordAt (m .tasks)) releases (cellAt (m .cells)))

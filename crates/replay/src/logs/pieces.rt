@@ -1,19 +1,17 @@
-// A log or a record byte by byte: a byte is held until its tick is whole, and the tick is then judged, compared and run.
+// A log or a record in pieces: the whole ticks of one are gone over at once, and a byte of a tick that it cuts is held until the tick is whole.
 ghost use mathlib.Core.Path.{_≡_};
-ghost use Prim.Native.Nat.{_≤_};
-ghost use mathlib.Core.Bool.{cond, not, _&&_};
+ghost use Prim.Native.Nat.{_%_, _≤_};
+ghost use mathlib.Core.Bool.{cond};
 ghost use lib.Dec.{eqb};
 ghost use lib.ListN.{length};
 ghost use Rattle.places.specs.Refusals.{orElse};
 ghost use Rattle.replay.specs.Ticks.Machines.{IsTied};
-ghost use Rattle.replay.specs.Logs.Shown.{shown};
-ghost use Rattle.replay.specs.Logs.Pieces.{beforeBytes, running, afterTick, stepped, AtOnce, followed, tiedIn};
+ghost use Rattle.replay.specs.Logs.Answers.{goOnAnswer};
+ghost use Rattle.replay.specs.Logs.Pieces.{beforeBytes, afterTick, stepped, AtOnce, followed, tiedIn};
 use crate::Following;
 use crate::Machine;
 use crate::Run;
-use crate::logs::checking;
-use crate::logs::rules;
-use crate::ticks::counting;
+use crate::logs::going;
 use crate::ticks::ticking;
 
 // Before the first byte of a log or of a record.
@@ -43,52 +41,14 @@ pub fn tied(mut following: Following) -> Following
     following
 }
 
-// Whether a tick of a record shows another byte than it must; one of a log shows none.
-fn is_other(is_record: bool, machine: Machine, releases: u8, ran: u8) -> bool
-    requires { ⌜ IsTied machine ⌝ }
-    ensures { λ r. ⌜ r ≡ («is_record» && not (eqb ran (shown machine releases))) ⌝ }
-{
-    if is_record {
-        return ran != checking::shown(machine, releases);
-    }
-    false
-}
-
-// After the run of a tick, with which one has differed or none has.
-fn run(mut following: Following, releases: u8, faults: u8, differs: bool) -> Following
-    requires { ⌜ IsTied (following .machine) ⌝ }
-    ensures { λ r. ⌜ r ≡ running following releases faults differs ⌝ }
-{
-    let machine = following.machine;
-    following.machine = ticking::tick(machine, releases, faults);
-    following.same = std::num::wrapping_add_u64(following.same, counting::one_if(!differs));
-    following.differs = differs;
-    following
-}
-
-// After a tick that is whole: it is judged, then compared and run, unless something before it is refused.
-fn tick(mut following: Following, releases: u8, faults: u8, ran: u8) -> Following
+// After a tick that is whole.
+fn tick(following: Following, releases: u8, faults: u8, ran: u8) -> Following
     requires { ⌜ IsTied (following .machine) ⌝ }
     ensures { λ r. ⌜ r ≡ afterTick following releases faults ran ⌝ }
 {
-    following.holds = 0;
-    following.releases = 0;
-    following.faults = 0;
-    if (following.start != 0) | (following.broken != 0) {
-        return following;
-    }
-    let machine = following.machine;
-    let refusal = rules::judge_tick(machine, releases, faults);
-    if refusal != 0 {
-        following.broken = refusal;
-        return following;
-    }
-    run(
-        following,
-        releases,
-        faults,
-        following.differs | is_other(following.is_record, machine, releases, ran),
-    )
+    let width = tick_width(following.is_record);
+    let bytes = [releases, faults, ran];
+    going::go_over(following, &bytes[..width], width)
 }
 
 // After one byte more.
@@ -122,7 +82,7 @@ fn tick_width(is_record: bool) -> usize
     if is_record { 3 } else { 2 }
 }
 
-// How many of the bytes to come are taken next: a whole tick's where none is held, or one.
+// How many of the bytes to come are taken next: whole ticks' where none is held, or one.
 pub fn next_bytes(is_record: bool, holds: u8, room: usize) -> usize
     requires { ⌜ 1 ≤ room ⌝ }
     ensures some { λ r. ⌜ 1 ≤ r ⌝ }
@@ -136,10 +96,10 @@ pub fn next_bytes(is_record: bool, holds: u8, room: usize) -> usize
     if room < width {
         return 1;
     }
-    width
+    room - room % width
 }
 
-// After a whole tick where none is held, or one byte.
+// After whole ticks where none is held, or one byte.
 pub fn go_on(following: Following, bytes: &[u8]) -> Following
     requires once { ⌜ AtOnce (following .«is_record») (following .holds) (length (now bytes)) ⌝ }
     requires tied { ⌜ IsTied (following .machine) ⌝ }
@@ -148,7 +108,7 @@ pub fn go_on(following: Following, bytes: &[u8]) -> Following
     if bytes.len() == 1 {
         return step(following, bytes[0]);
     }
-    tick(following, bytes[0], bytes[1], bytes[bytes.len() - 1])
+    going::go_over(following, bytes, tick_width(following.is_record))
 }
 
 // The refusal if no byte follows: the sheet's, then 14 where a tick is not whole, then that of the ticks.
@@ -162,4 +122,32 @@ pub fn refusal_at(start: u8, holds: u8, broken: u8) -> u8
         return 14;
     }
     broken
+}
+
+// The machine after a log of whole ticks.
+pub fn log_over(machine: Machine, log: &[u8]) -> Run
+    requires whole { ⌜ length (now log) % 2 ≡ 0 ⌝ }
+    requires tied { ⌜ IsTied machine ⌝ }
+    ensures { λ r. ⌜ r ≡ goOnAnswer machine (now (log .entry)) ⌝ }
+{
+    let following = before_bytes(
+        false,
+        Run {
+            refusal: 0,
+            machine,
+        },
+    );
+    let gone = going::go_over(following, log, 2);
+    let refusal = gone.broken;
+    if refusal != 0 {
+        return Run {
+            refusal,
+            machine: ticking::no_machine(),
+        };
+    }
+    let last = gone.machine;
+    Run {
+        refusal: 0,
+        machine: last,
+    }
 }

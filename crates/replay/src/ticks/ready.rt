@@ -1,7 +1,7 @@
 // The priorities of the ready jobs, as the bits of a byte.
 ghost use mathlib.Core.Path.{_≡_};
 ghost use Prim.Native.Nat.{_+_, _-_, _<_};
-ghost use mathlib.Core.Bool.{false, _&&_};
+ghost use mathlib.Core.Bool.{_&&_};
 ghost use lib.Dec.{eqb};
 ghost use lib.Count.{leadingZeros};
 ghost use Rattle.replay.specs.Ticks.Cells.{isReady};
@@ -55,17 +55,6 @@ pub fn ready_priorities(tasks: [Record; 8], cells: [Cell; 8]) -> u8
         slot += 1;
     }
     priorities
-}
-
-// The set of ready priorities as it was, unless a job came or went: then it is gathered anew.
-pub fn kept_priorities(ready: u8, has_changed: bool, tasks: [Record; 8], cells: [Cell; 8]) -> u8
-    requires { ⌜ («has_changed» ≡ false → ready ≡ readyPriorities tasks cells) ⌝ }
-    ensures { λ r. ⌜ r ≡ readyPriorities tasks cells ⌝ }
-{
-    if has_changed {
-        return ready_priorities(tasks, cells);
-    }
-    ready
 }
 
 // The highest priority of a set, or 0.

@@ -1,4 +1,4 @@
--- The assured time of a record under a choice: how it is asked with any backup, with the table held in order too, and that it is the response time where the fault priority is the priority. Assumes nothing.
+-- The assured time of a record under a choice: how it is asked with any backup, and that it is the response time where the fault priority is the priority. Assumes nothing.
 use Prim.Native.Nat.{ℕ, _-_, _≤_, _<_}
 use mathlib.Core.Path.{_≡_, refl, sym, ap, ap₂, _∙_}
 use mathlib.Core.Bool.{Bool, true, false, cond, _&&_, _||_}
@@ -16,8 +16,6 @@ use Rattle.sheet.specs.Layout.{recordAt}
 use Rattle.sheet.specs.Rules.{tableRefusal}
 use Rattle.sheet.proofs.Cases.{good-table}
 use Rattle.sheet.proofs.Ranks.{ranked}
-use Rattle.analysis.specs.declared.Ordered.{Ordered}
-use Rattle.analysis.specs.declared.Rule.the-variants.{Assured}
 use Rattle.analysis.specs.Common.Tasks.{Tasks, tasksOf}
 use Rattle.analysis.specs.Common.Search.{leastWithin}
 use Rattle.analysis.specs.Published.Response.{responseTime, late}
@@ -26,13 +24,9 @@ use Rattle.analysis.specs.Assured.Equation.{isOver, isAhead, backupAhead
 use Rattle.analysis.specs.Assured.Time.{assuredWithin, assuredTime, unassured}
 use Rattle.analysis.specs.Common.Columns.{prioritiesOf, backupsOf}
 use Rattle.analysis.specs.Common.Allowed.{Within}
-use Rattle.analysis.specs.Common.Order.{rankOf, HeldInOrder}
-use Rattle.analysis.specs.Bounds.Within.{largestOf, below}
+use Rattle.analysis.specs.Bounds.Within.{largestOf}
 use Rattle.analysis.specs.Assured.Ahead.{largestAhead}
-use Rattle.analysis.proofs.Laws.Common.Climbing.{least-agree}
 use Rattle.analysis.proofs.Laws.Common.Choice.{priority-at}
-use Rattle.analysis.proofs.Laws.Assured.Reordered.{asked-assured-held}
-use Rattle.analysis.proofs.Laws.Common.Placing.{same-tasks}
 use Rattle.analysis.proofs.Laws.Assured.Raised.{assured-response}
 
 -- whether a record is among those ahead
@@ -82,15 +76,6 @@ module _ (t : Table) (good : tableRefusal t ≡ 0) (choice : List ℕ) (allowed 
     pub assured-time-asked : assuredTime chosen place ≡ leastWithin (askedAssured plain place (getD choice place 0) (backupAhead chosen place)) 1 65535
     unfolding assuredTime assuredWithin assuredEquation askedAssured isOver
     assured-time-asked = refl
-
-    -- the same asked with the table held in order
-    module _ (held : Ordered) (order : HeldInOrder t choice held) {rank backup : ℕ} (here : rank ≡ rankOf t place) (most : backup ≡ backupAhead chosen place) where
-      pub assured-there : leastWithin (askedAssured (tasksOf (held .table) (t .interval) []) rank (getD choice place 0) backup) 1 65535 ≡ assuredTime chosen place
-      unfolding askedAssured isOver
-      assured-there =
-          ap₂ (λ (r b : ℕ). leastWithin (askedAssured (tasksOf (held .table) (t .interval) []) r (getD choice place 0) b) 1 65535) here most
-          ∙ sym (least-agree _ _ 1 65535 (λ L long. asked-assured-held (tasksOf t (t .interval) choice) (tasksOf (held .table) (t .interval) (held .faults)) (rankOf t) (same-tasks t choice held order good (t .interval)) place below (getD choice place 0) (backupAhead chosen place) L))
-          ∙ sym assured-time-asked
 
     -- one whose fault priority is its priority has one exactly if it is not late
     pub raised-unassured : getD choice place 0 ≡ recordAt (t .records) place .priority → unassured chosen place ≡ late chosen place

@@ -21,9 +21,8 @@ use Rattle.analysis.specs.Published.Equations.{isBetween, struckElsewher
 use Rattle.analysis.specs.Published.Response.{timeElsewhere, timeItself, responseWithin}
 use Rattle.analysis.specs.Assured.Equation.{isOver, isAhead, backupAhead, assuredEquation, askedAssured}
 use Rattle.analysis.specs.Assured.Time.{assuredWithin}
-use Rattle.analysis.proofs.Laws.Common.Rounding.{up-some}
+use Rattle.analysis.proofs.Laws.Common.Rounding.{up-some, first-paid}
 use Rattle.analysis.proofs.Laws.Common.Climbing.{least-agree}
-use Rattle.analysis.proofs.Laws.Common.Tied.{first-paid}
 use Rattle.analysis.proofs.Laws.Common.Easier.{NoLater, least-easier}
 use Rattle.analysis.proofs.Laws.Published.Larger.{late-elsewhere, late-itself, on-time}
 

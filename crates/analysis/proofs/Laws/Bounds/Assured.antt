@@ -29,8 +29,7 @@ use Rattle.analysis.specs.Bounds.Limits.{askedWith, askedBy, bears}
 use Rattle.analysis.specs.Bounds.Found.{foundBounds}
 use Rattle.analysis.specs.Bounds.Hopeless.{ownMissed, hopeless}
 use Rattle.analysis.specs.Bounds.Within.{below, belowLimits, withinAt, withinBounds}
-use Rattle.analysis.proofs.Laws.Common.Rounding.{up-some}
-use Rattle.analysis.proofs.Laws.Common.Tied.{first-paid}
+use Rattle.analysis.proofs.Laws.Common.Rounding.{up-some, first-paid}
 use Rattle.analysis.proofs.Laws.Bounds.Borne.{bears-easier, limit-kept, borne-below, within-each}
 use Rattle.analysis.proofs.Laws.Assured.Raised.{ahead-most}
 use Rattle.analysis.proofs.Laws.Assured.Asked.{ahead-kept, assured-time-asked}

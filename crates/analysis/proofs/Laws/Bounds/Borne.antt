@@ -135,12 +135,6 @@ bears-easier rule other s i q p small large less is =
 pub bears-falls : (rule : Rule) (s : Tasks) (i q : ℕ) → Falls (bears rule s i q)
 bears-falls rule s i q small large less = bears-easier rule rule s i q q small large (asked-rises rule s i q small large less)
 
--- a choice plays no part in what is asked with any backup
-pub bears-faultless : (rule : Rule) (t : Table) (interval : ℕ) (c d : List ℕ) (i q backup : ℕ) → bears rule (tasksOf t interval c) i q backup ≡ bears rule (tasksOf t interval d) i q backup
-unfolding bears askedBy askedWith askedElsewhere askedItself isBetween askedAssured isOver
-bears-faultless Published t interval c d i q backup = refl
-bears-faultless Assured t interval c d i q backup = refl
-
 -- bounds that are not refused have 1 to 8 records
 pub bounds-few : (refusal count : ℕ) → boundsRefusal refusal count ≡ 0 → count ≤ 8
 unfolding boundsRefusal

@@ -18,12 +18,13 @@ use Rattle.sheet.specs.declared.Table.{Table}
 use Rattle.sheet.specs.Layout.{recordAt}
 use Rattle.sheet.specs.Rules.{tableRefusal}
 use Rattle.sheet.proofs.Cases.{good-table, good-at}
-use Rattle.analysis.specs.Published.Equations.{isBetween, askedItself}
+use Rattle.analysis.specs.Published.Equations.{isBetween, askedElsewhere, askedItself, struckElsewhere, struckItself}
 use Rattle.analysis.specs.declared.Rule.the-variants.{Published}
 use Rattle.analysis.specs.Common.Rounding.{up}
 use Rattle.analysis.specs.Common.Tasks.{Tasks, tasksOf}
 use Rattle.analysis.specs.Common.Backups.{others, everyone, backupOf, largestBackup, backupElsewhere, backupFromFault}
 use Rattle.analysis.specs.Published.Response.{timeElsewhere, timeItself, late, passes}
+use Rattle.analysis.specs.Common.Search.{leastWithin}
 use Rattle.analysis.specs.Common.Entries.{isLate}
 use Rattle.analysis.specs.Common.Columns.{prioritiesOf, backupsOf}
 use Rattle.analysis.specs.Common.Allowed.{Within}
@@ -31,10 +32,19 @@ use Rattle.analysis.specs.Bounds.Limits.{askedWith, askedBy, bears}
 use Rattle.analysis.specs.Bounds.Found.{foundBounds}
 use Rattle.analysis.specs.Bounds.Hopeless.{ownMissed, hopeless}
 use Rattle.analysis.specs.Bounds.Within.{largestOf, below, belowLimits, withinAt, withinBounds}
-use Rattle.analysis.proofs.Laws.Published.Found.{elsewhere-asked, itself-asked}
 use Rattle.analysis.proofs.Laws.Common.Choice.{priority-at}
 use Rattle.analysis.proofs.Laws.Bounds.Borne.{bears-easier, borne-below, limit-kept, limitFor, within-each}
 use Rattle.analysis.proofs.Laws.Published.Larger.{late-either}
+
+-- the equations are those with any M and N, with the M and N of the fault priorities
+module _ (limit : ℕ) (t : Table) (interval : ℕ) (faults : List ℕ) (i : ℕ) where
+  elsewhere-asked : timeElsewhere limit (tasksOf t interval faults) i ≡ leastWithin (askedElsewhere (tasksOf t interval []) i (backupElsewhere (tasksOf t interval faults) i)) 1 limit
+  unfolding timeElsewhere struckElsewhere askedElsewhere
+  elsewhere-asked = refl
+
+  itself-asked : timeItself limit (tasksOf t interval faults) i ≡ leastWithin (askedItself (tasksOf t interval []) i (getD faults i 0) (backupFromFault (tasksOf t interval faults) i)) 1 limit
+  unfolding timeItself struckItself askedItself isBetween
+  itself-asked = refl
 
 -- a record that runs at its own priority has no tasks between, so that a lower fault priority and a larger backup ask no less
 own-least : (s : Tasks) (i q small large : ℕ) → 1 ≤ q → q ≤ s .at i .priority → small ≤ large → (L : ℕ) → 1 ≤ L → askedBy Published s i (s .at i .priority) small L ≤ askedBy Published s i q large L

@@ -10,10 +10,9 @@ use lib.ListN.{getD}
 use Rattle.analysis.specs.declared.Bounds.{Bounds}
 use Rattle.analysis.specs.declared.Rule.{Rule}
 use Rattle.analysis.specs.declared.Rule.the-variants.{Published}
-use Rattle.analysis.specs.declared.Weighed.{Weighed}
 use Rattle.analysis.specs.Common.Backups.{others, everyone}
 use Rattle.analysis.specs.Assured.Ahead.{largestAhead}
-use Rattle.analysis.specs.Bounds.Within.{largestOf, WeighedOf, below, belowLimits, withinAt}
+use Rattle.analysis.specs.Bounds.Within.{largestOf, below, belowLimits, withinAt}
 use Rattle.analysis.proofs.Laws.Assured.Asked.{ahead-fewer}
 
 -- the top at a record's fault priority
@@ -43,10 +42,8 @@ module _ (rule : Rule) (b : Bounds) (choice : List ℕ) (place : ℕ) where
   unfolding withinAt
   too-high high = simp (lt-leb (getD choice place 0) 8 high)
 
-  pub limits-decide : getD choice place 0 ≤ 8 → (w : Weighed) → WeighedOf b choice w → {is : Bool}
-      → is ≡ below rule (w .backups) (w .priorities) (w .choice) (w .count) place (getD (b .limits) (9 * place + getD choice place 0) 0) (getD (b .limits) (9 * place) 0)
+  pub limits-decide : getD choice place 0 ≤ 8 → {is : Bool}
+      → is ≡ below rule (b .backups) (b .priorities) choice (b .count) place (getD (b .limits) (9 * place + getD choice place 0) 0) (getD (b .limits) (9 * place) 0)
       → past rule b choice place ≡ not is
   unfolding withinAt belowLimits
-  limits-decide low w weighed e =
-      simp (le-leb (getD choice place 0) 8 low)
-      (ap not (sym (e ∙ (λ j. below rule (weighed .backups j) (weighed .priorities j) (weighed .faults j) (weighed .records j) place (getD (b .limits) (9 * place + getD choice place 0) 0) (getD (b .limits) (9 * place) 0)))))
+  limits-decide low e = simp (le-leb (getD choice place 0) 8 low) (ap not (sym e))

@@ -58,3 +58,10 @@ up-worked = (refl, refl, refl, refl, refl, refl, refl, refl, refl, refl, refl, r
 -- a product of two numbers of 16 bits
 pub wide-product : {a b : ℕ} → a < 65536 → b < 65536 → a * b ≤ 4294836225
 wide-product ha hb = mul-le-mul (le-of-suc-le-suc ha) (le-of-suc-le-suc hb)
+
+-- the first fault's backup is paid
+pub first-paid : (u n : ℕ) → 1 ≤ u → u * n ≡ (u - 1) * n + n
+first-paid zero n h = absurd (omega arith)
+first-paid (suc u) n h =
+    let rest : suc u - 1 ≡ u = omega arith in
+    rw rest (suc-mul u n)

@@ -17,7 +17,8 @@ use Rattle.analysis.specs.Published.Equations.{isBetween, struckItself, 
 use Rattle.analysis.specs.Common.Search.{leastWithin}
 use Rattle.analysis.specs.Published.Response.{timeElsewhere, timeItself, responseWithin}
 use Rattle.analysis.proofs.Laws.Common.Rounding.{up-rises, up-some}
-use Rattle.analysis.proofs.Laws.Common.Climbing.{Short, Least, least-says, least-none, least-agree, least-later}
+use Rattle.analysis.specs.Common.Jump.{Missed}
+use Rattle.analysis.proofs.Laws.Common.Climbing.{Least, least-says, least-none, least-agree, least-later}
 use Rattle.analysis.proofs.Laws.Common.Supplier.{unshared}
 
 -- no priority is above another and below it
@@ -105,7 +106,7 @@ module _ (s : Tasks) (i : ℕ) (own : s .fault i ≡ s .at i .priority) (often :
       omega (arith, one-is a, one-is b, sum-rises (s .count) (λ k below. above-rises h k), mul-le-mul-right (backupFromFault s i) faults)
 
   -- the least length of stage one is just what it asks
-  one-fits : (L1 : ℕ) → 1 ≤ s .at i .backup → 1 ≤ L1 → stageOne s i L1 ≤ L1 → Short (stageOne s i) 1 L1 → stageOne s i L1 ≡ L1
+  one-fits : (L1 : ℕ) → 1 ≤ s .at i .backup → 1 ≤ L1 → stageOne s i L1 ≤ L1 → Missed (stageOne s i) 1 L1 → stageOne s i L1 ≡ L1
   one-fits L1 some low fits short = go (decLt (stageOne s i L1) L1)
     where
       go : Dec (stageOne s i L1 < L1) → stageOne s i L1 ≡ L1
@@ -128,19 +129,19 @@ module _ (s : Tasks) (i : ℕ) (own : s .fault i ≡ s .at i .priority) (often :
       between false k = refl
 
   -- a length that stage one asks too much of is too short for the one equation
-  short-both : {end : ℕ} → Short (stageOne s i) 1 end → Short (struckItself s i) 1 end
-  short-both short k low high = omega (arith, short k low high, itself-is k)
+  missed-both : {end : ℕ} → Missed (stageOne s i) 1 end → Missed (struckItself s i) 1 end
+  missed-both short k low high = omega (arith, short k low high, itself-is k)
 
   itself-kept : (limit : ℕ) → 1 ≤ s .at i .backup → timeItself limit s i ≡ formerItself limit s i
   unfolding timeItself formerItself lengthOne
   itself-kept limit some = go (least-says (stageOne s i) 1 limit)
     where
       go : {r : ℕ} → Least (stageOne s i) 1 limit r → leastWithin (struckItself s i) 1 limit ≡ cond (eqb r 0) 0 (leastWithin (stageTwo s i r) r limit)
-      go (Least.none short) = least-none (struckItself s i) 1 limit (suc limit) (omega arith) (short-both short)
+      go (Least.none short) = least-none (struckItself s i) 1 limit (suc limit) (omega arith) (missed-both short)
       go (Least.least {L = L1} low high fits short) =
           let just = one-fits L1 some low fits short in
           rw (ne-eqb L1 0 (λ z. omega arith))
-          (sym (least-agree (stageTwo s i L1) (struckItself s i) L1 limit (λ L later. two-is L1 L just low later) ∙ least-later (struckItself s i) 1 L1 limit low (short-both short)))
+          (sym (least-agree (stageTwo s i L1) (struckItself s i) L1 limit (λ L later. two-is L1 L just low later) ∙ least-later (struckItself s i) 1 L1 limit low (missed-both short)))
 
   -- "Tasks with q = p keep their answers."
   pub kept : (limit : ℕ) → 1 ≤ s .at i .backup → responseWithin limit s i ≡ formerResponse limit s i

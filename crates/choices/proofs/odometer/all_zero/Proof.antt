@@ -21,14 +21,14 @@ abbrev μ-loop : tie.MeasureT-loop
 loop-holds : tie.Need-loop-holds Inv-loop μ-loop
 loop-holds c = search needs
 
-array-read-if1 : tie.Need-array-read-if1 Inv-loop μ-loop
-array-read-if1 c = search needs
+element-copy-out-if1 : tie.Need-element-copy-out-if1 Inv-loop μ-loop
+element-copy-out-if1 c = search needs
 
 returns : tie.Need-returns Inv-loop μ-loop
 returns c =
-    let l = c .before .before .before .args .t1 in
-    let at = c .before .before .loop in
-    let eight : length l ≡ 8 = search needs in
+    let l = c .before .before .before .before .args .choice .now in
+    let at = c .before .before .before .loop in
+    let eight : length l ≡ 8 = c .before .before .before .before .pre in
     let below : at .place < length l = omega arith in
     sym (at .inv .1 ∙ zero-at l (at .place) below ∙ ap (λ (b : Bool). b && allZero (drop (at .place + 1) l)) (ne-eqb _ _ (c .if1 .taken)))
 
@@ -40,18 +40,18 @@ loop-less c = search needs
 
 loop-again : tie.Need-loop-again Inv-loop μ-loop
 loop-again c =
-    let l = c .before .before .before .args .t1 in
-    let at = c .before .before .loop in
-    let eight : length l ≡ 8 = search needs in
+    let l = c .before .before .before .before .args .choice .now in
+    let at = c .before .before .before .loop in
+    let eight : length l ≡ 8 = c .before .before .before .before .pre in
     let below : at .place < length l = omega arith in
     (search needs, at .inv .1 ∙ zero-at l (at .place) below ∙ ap (λ (b : Bool). b && allZero (drop (at .place + 1) l)) (eq-eqb _ _ (c .if1 .left)))
 
 returns-2 : tie.Need-returns-2 Inv-loop μ-loop
 unfolding allZero
 returns-2 c =
-    let l = c .before .before .args .t1 in
+    let l = c .before .before .args .choice .now in
     let at = c .before .loop in
-    let eight : length l ≡ 8 = search needs in
+    let eight : length l ≡ 8 = c .before .before .pre in
     let none : drop (at .place) l ≡ [] = drop-of-length-le l {i = at .place} (omega arith) in
     sym (at .inv .1 ∙ ap allZero none)
 
@@ -62,7 +62,7 @@ all-zero-spec =
     Inv-loop
     μ-loop
     loop-holds
-    array-read-if1
+    element-copy-out-if1
     returns
     add-place
     loop-less

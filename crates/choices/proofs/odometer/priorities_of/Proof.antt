@@ -18,13 +18,13 @@ abbrev priorityOf : List Record → ℕ → ℕ
 priorityOf records k = recordAt records k .priority
 
 abbrev Inv-loop : tie.InvT-loop
-Inv-loop count records priorities₀ place₀ priorities place = (place ≤ count) × (priorities ≡ filledBelow (priorityOf records) place (replicate 8 0))
+Inv-loop table count priorities₀ place₀ priorities place = (place ≤ count) × (priorities ≡ filledBelow (priorityOf (table .records)) place (replicate 8 0))
 
 abbrev μ-loop : tie.MeasureT-loop
-μ-loop count records priorities₀ place₀ priorities place = count - place
+μ-loop table count priorities₀ place₀ priorities place = count - place
 
-cast-count : tie.Need-cast-count Inv-loop μ-loop
-cast-count c = search needs
+few-requires : tie.Need-few-requires Inv-loop μ-loop
+few-requires c κs = search needs
 
 loop-holds : tie.Need-loop-holds Inv-loop μ-loop
 unfolding filledBelow
@@ -49,14 +49,15 @@ loop-again : tie.Need-loop-again Inv-loop μ-loop
 unfolding recordAt
 loop-again c =
     let at = c .before .loop in
-    let records = c .before .before .before .before .args .table .records in
+    let records = c .before .before .before .args .t1 .records in
     (search needs, ap (λ (l : List ℕ). set l (at .place) (priorityOf records (at .place))) (at .inv .1) ∙ sym (fill-more (priorityOf records) (at .place) (replicate 8 0)))
 
 returns : tie.Need-returns Inv-loop μ-loop
 unfolding prioritiesOf
-returns c =
-    let table = c .before .before .before .before .args .table in
-    let all : c .before .loop .place ≡ table .count = omega arith in
+returns c small =
+    let count = c .before .before in
+    let table = count .before .args .t1 in
+    let all : c .before .loop .place ≡ table .count = omega (arith, count .few .ensures .1 small) in
     c .before .loop .inv .1 ∙ ap (λ (n : ℕ). filledBelow (priorityOf (table .records)) n (replicate 8 0)) all
 
 pub priorities-of-spec : {M : Type 1} → statement M
@@ -65,7 +66,7 @@ priorities-of-spec =
     (tie.spec
     Inv-loop
     μ-loop
-    cast-count
+    few-requires
     loop-holds
     mul-priorities
     element-copy-out-priorities

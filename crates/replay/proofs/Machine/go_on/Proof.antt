@@ -3,7 +3,6 @@ use mathlib.Core.Path.{sym, ap, subst, _∙_}
 use native.Mathlib.Omega.{arith}
 use Rattle.replay.specs.declared.Machine.{Machine}
 use Rattle.replay.specs.Ticks.Machines.{IsTied}
-use Rattle.replay.specs.Logs.Shown.{logOf}
 use Rattle.replay.specs.Logs.Answers.{goOnAnswer}
 use Rattle.replay.proofs.OfTicks.Ready.{tied-tied}
 use Rattle.replay.proofs.OfLogs.Going.{odd-refused, refused-answer, go-on-any}
@@ -22,12 +21,11 @@ returns c =
 tied-requires : tie.Need-tied-requires
 tied-requires c κs = search needs
 
-go-over-requires : tie.Need-go-over-requires
-go-over-requires c κs = (omega arith, (omega arith, (c .before .if1 .left, subst IsTied (sym (c .tied .ensures)) (tied-tied _))))
+log-over-requires : tie.Need-log-over-requires
+log-over-requires c κs = (c .before .if1 .left, subst IsTied (sym (c .tied .ensures)) (tied-tied _))
 
 returns-2 : tie.Need-returns-2
-unfolding logOf
-returns-2 c = c .go-over .ensures ∙ ap (λ (m : Machine). goOnAnswer m (c .before .before .before .before .args .part .now)) (c .before .tied .ensures) ∙ go-on-any _ _
+returns-2 c = c .log-over .ensures ∙ ap (λ (m : Machine). goOnAnswer m (c .before .before .before .before .args .part .now)) (c .before .tied .ensures) ∙ go-on-any _ _
 
 pub go-on-spec : {M : Type 1} → statement M
-go-on-spec = tie.close (tie.spec no-machine-requires returns tied-requires go-over-requires returns-2)
+go-on-spec = tie.close (tie.spec no-machine-requires returns tied-requires log-over-requires returns-2)

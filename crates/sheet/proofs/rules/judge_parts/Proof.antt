@@ -46,17 +46,17 @@ marked-value c = sym (c .priority-from .ensures ∙ ap (λ (part : List ℕ). re
 
 -- and what was answered is that record's refusal
 judged : (c : tie.After-judge-record Inv-loop μ-loop)
-    → let turn = c .before .before .before .before in
+    → let turn = c .before .before .before .before .before in
     let task = sheetRecord (lent turn) (turn .before .loop .place) in
     c .judge-record .result ≡ refusalOf (turn .before .before .before .before .args .count) (getD (turn .before .loop .marks) (task .priority) false) task
 unfolding sheetRecord
 judged c =
     let marked = c .before in
-    let turn = marked .before .before .before in
+    let turn = marked .before .before .before .before in
     let count = turn .before .before .before .before .args .count in
     let marks = turn .before .loop .marks in
     c .judge-record .ensures ∙ ap (λ (part : List ℕ). refusalOf count (marked .is-marked .result) (recordOf part)) (part-is turn)
-    ∙ ap (λ (b : Bool). refusalOf count b (sheetRecord (lent turn) (turn .before .loop .place))) (marked .is-marked .ensures ∙ ap (λ (p : ℕ). getD marks p false) (sym (marked-value (marked .before))))
+    ∙ ap (λ (b : Bool). refusalOf count b (sheetRecord (lent turn) (turn .before .loop .place))) (marked .is-marked .ensures ∙ ap (λ (p : ℕ). getD marks p false) (sym (marked-value (marked .before .before))))
 
 start-requires : tie.Need-start-requires Inv-loop μ-loop
 unfolding sizeOf
@@ -90,11 +90,11 @@ is-marked-requires : tie.Need-is-marked-requires Inv-loop μ-loop
 is-marked-requires c κs = search needs
 
 judge-record-requires : tie.Need-judge-record-requires Inv-loop μ-loop
-judge-record-requires c κs = nine (c .before .before .before)
+judge-record-requires c κs = nine (c .before .before .before .before)
 
 returns : tie.Need-returns Inv-loop μ-loop
 returns c =
-    let turn = c .before .before .before .before .before in
+    let turn = c .before .before .before .before .before .before in
     let at = turn .before .loop in
     judged (c .before) ∙ judging-found _ _ (turn .before .before .before .before .pre .0) _ _ (at .inv) (turn .loop-test .taken) (λ e. c .if1 .taken (judged (c .before) ∙ e))
 
@@ -103,7 +103,7 @@ cast-value c = search needs
 
 array-write-marks : tie.Need-array-write-marks Inv-loop μ-loop
 array-write-marks c =
-    let first = c .before .before .before in
+    let first = c .before .before .before .before in
     let turn = first .before .before in
     let at = turn .before .loop in
     subst (λ (k : ℕ). k < 16) (marked-value first)
@@ -117,7 +117,7 @@ loop-less c = search needs
 
 loop-again : tie.Need-loop-again Inv-loop μ-loop
 loop-again c =
-    let first = c .before .before .before in
+    let first = c .before .before .before .before in
     let turn = first .before .before in
     let at = turn .before .loop in
     let given = turn .before .before .before .before in

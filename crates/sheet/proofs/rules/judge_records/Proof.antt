@@ -18,14 +18,14 @@ abbrev μ-loop : tie.MeasureT-loop
 
 -- what was answered is the refusal of the record at the place
 judged : (c : tie.After-judge-fields Inv-loop μ-loop)
-    → let at = c .before .before .before .before .loop in
-    let given = c .before .before .before .before .before in
+    → let at = c .before .before .before .before .before .loop in
+    let given = c .before .before .before .before .before .before in
     let task = recordAt (given .args .t1) (at .place) in
     c .judge-fields .result ≡ refusalOf (given .args .count) (getD (at .marks) (task .priority) false) task
 unfolding recordAt
 judged c =
-    let at = c .before .before .before .before .loop in
-    let given = c .before .before .before .before .before in
+    let at = c .before .before .before .before .before .loop in
+    let given = c .before .before .before .before .before .before in
     c .judge-fields .ensures ∙ ap (λ (b : Bool). refusalOf (given .args .count) b (recordAt (given .args .t1) (at .place))) (c .before .is-marked .ensures)
 
 loop-holds : tie.Need-loop-holds Inv-loop μ-loop
@@ -46,7 +46,7 @@ judge-fields-requires c κs = search needs
 returns : tie.Need-returns Inv-loop μ-loop
 unfolding recordsJudged
 returns c =
-    let turn = c .before .before .before .before in
+    let turn = c .before .before .before .before .before in
     let given = turn .before .before in
     ap₂ (λ (refusal place : ℕ). record { refusal = refusal; place = place })
     (judged (c .before) ∙ judging-found _ _ (given .pre) _ _ (turn .before .loop .inv) (turn .loop-test .taken) (λ e. c .if1 .taken (judged (c .before) ∙ e)))
@@ -58,7 +58,7 @@ cast-value c = search needs
 array-write-marks : tie.Need-array-write-marks Inv-loop μ-loop
 unfolding recordAt
 array-write-marks c =
-    let turn = c .before .before .before .before .before in
+    let turn = c .before .before .before .before .before .before in
     let at = turn .before .loop in
     let given = turn .before .before in
     priority-small _ (recordAt (given .args .t1)) (given .pre) (at .marks) (at .place) (at .inv) (turn .loop-test .taken) (sym (judged (c .before .before)) ∙ c .before .if1 .left)
@@ -72,7 +72,7 @@ loop-less c = search needs
 loop-again : tie.Need-loop-again Inv-loop μ-loop
 unfolding recordAt
 loop-again c =
-    let turn = c .before .before .before .before .before in
+    let turn = c .before .before .before .before .before .before in
     let at = turn .before .loop in
     let given = turn .before .before in
     judging-more _ (recordAt (given .args .t1)) (given .pre) (at .marks) (at .place) (at .inv) (turn .loop-test .taken) (sym (judged (c .before .before)) ∙ c .before .if1 .left)

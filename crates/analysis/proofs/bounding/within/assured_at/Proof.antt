@@ -28,22 +28,24 @@ half-wide-requires c κs = search needs
 
 -- the top that is read
 topmost : (c : tie.After-half-wide)
-    → c .half-wide .result ≡ largestOf (c .before .before .before .args .t1 .backups) (c .before .before .before .args .t1 .choice) everyone (getD (c .before .before .before .args .t1 .choice) (c .before .before .before .args .place) 0) (c .before .before .before .args .t1 .count)
-topmost c = c .half-wide .ensures .0 ∙ c .before .before .before .pre .0 .tops _ (omega (arith, c .before .before .before .pre .1 .1))
+    → c .half-wide .result ≡ largestOf (c .before .before .before .args .backups .now) (c .before .before .before .args .choice .now) everyone (getD (c .before .before .before .args .choice .now) (c .before .before .before .args .place) 0) (c .before .before .before .args .count)
+topmost c = c .half-wide .ensures .0 ∙ c .before .before .before .pre .1 .0 _ (omega (arith, c .before .before .before .pre .1 .1 .1))
 
 returns : tie.Need-returns
 returns c =
     let args = c .before .before .before .before .args in
-    top-enough (args .t1 .backups) (args .t1 .priorities) (args .t1 .choice) (args .t1 .count) (args .place) (args .limit) (topmost (c .before)) (c .if1 .taken)
+    top-enough (args .backups .now) (args .priorities .now) (args .choice .now) (args .count) (args .place) (args .limit) (topmost (c .before)) (c .if1 .taken)
 
 largest-ahead-requires : tie.Need-largest-ahead-requires
-largest-ahead-requires c κs = search needs
+largest-ahead-requires c κs =
+    let given = c .before .before .before .before in
+    (given .pre .0, omega (arith, given .pre .0, given .pre .1 .1 .0))
 
 half-wide-requires-2 : tie.Need-half-wide-requires-2
 half-wide-requires-2 c κs = search needs
 
 returns-2 : tie.Need-returns-2
-returns-2 c = ap (λ (n : ℕ). ltb n (c .before .before .before .before .before .before .before .before .before .args .limit)) (c .half-wide2 .ensures .0 ∙ c .before .largest-ahead .ensures)
+returns-2 c = ap (λ (n : ℕ). ltb n (c .before .before .before .before .before .before .args .limit)) (c .half-wide2 .ensures .0 ∙ c .before .largest-ahead .ensures)
 
 pub assured-at-spec : {M : Type 1} → statement M
 assured-at-spec =

@@ -1,45 +1,42 @@
 -- `analysis::bounding::within::each_published` meets its contract: every record so far is within its limits. Assumes nothing.
 use Prim.Native.Nat.{ℕ, _-_, _≤_}
-use mathlib.Core.Path.{_≡_, refl, sym, ap, subst, _∙_}
+use mathlib.Core.Path.{_≡_, refl, sym, ap, _∙_}
 use mathlib.Core.Bool.{false, not}
-use mathlib.Core.List.{List}
 use native.Mathlib.Omega.{arith}
-use lib.ListN.{getD}
 use Rattle.places.specs.Places.{someBelow}
 use Rattle.places.proofs.Turns.{none-more}
 use Rattle.places.proofs.Some.{some-found}
 use Rattle.analysis.specs.declared.Rule.the-variants.{Published}
-use Rattle.analysis.specs.Bounds.Within.{withinBounds}
+use Rattle.analysis.specs.Bounds.Within.{withinBounds, boundsIn}
 use Rattle.analysis.proofs.Laws.Bounds.Weighing.{past, too-high, limits-decide}
 use borrow.Author.Needs.{needs}
 use Rattle.analysis.proofs.bounding.within.each_published.Statement.{statement}
 use Rattle.analysis.proofs.bounding.within.each_published.Tie as tie
 
 abbrev Inv-loop : tie.InvT-loop
-Inv-loop bounds choice known count place₀ place = (place ≤ count) × (someBelow (past Published bounds choice) place ≡ false)
+Inv-loop priorities backups limits choice count end tops place₀ place = (place ≤ count) × (someBelow (past Published (boundsIn 0 count priorities backups limits) choice) place ≡ false)
 
 abbrev μ-loop : tie.MeasureT-loop
-μ-loop bounds choice known count place₀ place = count - place
+μ-loop priorities backups limits choice count end tops place₀ place = count - place
 
-weighed-requires : tie.Need-weighed-requires Inv-loop μ-loop
-weighed-requires c κs = search needs
-
-cast-count : tie.Need-cast-count Inv-loop μ-loop
-cast-count c = search needs
+tops-of-requires : tie.Need-tops-of-requires Inv-loop μ-loop
+tops-of-requires c κs = search needs
 
 loop-holds : tie.Need-loop-holds Inv-loop μ-loop
 unfolding someBelow
 loop-holds c = (omega arith, refl)
 
-array-read-fault : tie.Need-array-read-fault Inv-loop μ-loop
-array-read-fault c = search needs
+element-copy-out-fault : tie.Need-element-copy-out-fault Inv-loop μ-loop
+element-copy-out-fault c = search needs
 
 returns : tie.Need-returns Inv-loop μ-loop
 unfolding withinBounds
 returns c =
-    let at = c .before .before .loop in
-    let args = c .before .before .before .before .args in
-    sym (ap not (some-found (past Published (args .t1) (args .t2)) (at .place) (args .t1 .count) (c .before .loop-test .taken) (too-high Published (args .t1) (args .t2) (at .place) (c .if1 .taken))))
+    let at = c .before .before .before .loop in
+    let args = c .before .before .before .before .before .args in
+    let choice = args .choice .now in
+    let bounds = boundsIn 0 (args .count) (args .priorities .now) (args .backups .now) (args .limits .now) in
+    sym (ap not (some-found (past Published bounds choice) (at .place) (args .count) (c .before .before .loop-test .taken) (too-high Published bounds choice (at .place) (c .if1 .taken))))
 
 mul-limit : tie.Need-mul-limit Inv-loop μ-loop
 mul-limit c = search needs
@@ -67,11 +64,10 @@ element-copy-out-limit-elsewhere c = search needs
 
 published-at-requires : tie.Need-published-at-requires Inv-loop μ-loop
 published-at-requires c κs =
-    let low = c .before .before in
-    let place = low .before .before .loop .place in
-    let known = low .before .before .before .weighed in
-    let here = low .before .loop-test .taken in
-    (known .ensures .weighs, (omega (arith, here, known .ensures .records), subst (λ (l : List ℕ). getD l place 0 ≤ 8) (sym (known .ensures .faults)) (low .if1 .left)))
+    let low = c .before .before .before in
+    let turn = low .before .before in
+    let known = turn .before .before in
+    (known .before .pre, (known .tops-of .ensures, (turn .loop-test .taken, low .if1 .left)))
 
 add-place : tie.Need-add-place Inv-loop μ-loop
 add-place c = search needs
@@ -81,29 +77,32 @@ loop-less c = search needs
 
 loop-again : tie.Need-loop-again Inv-loop μ-loop
 loop-again c =
-    let low = c .before .before .before .before in
-    let at = low .before .before in
-    let known = at .before .weighed in
-    let args = at .before .before .args in
-    let decided = limits-decide Published (args .t1) (args .t2) (at .loop .place) (low .if1 .left) (known .result) (known .ensures) (c .before .published-at .ensures) in
-    (omega arith, none-more (past Published (args .t1) (args .t2)) (at .loop .place) (at .loop .inv .1) (decided ∙ ap not (c .if2 .taken)))
+    let at = c .before .before .before .before .before .before .before .before .loop in
+    let args = c .before .before .before .before .before .before .before .before .before .before .args in
+    let choice = args .choice .now in
+    let bounds = boundsIn 0 (args .count) (args .priorities .now) (args .backups .now) (args .limits .now) in
+    let decided = limits-decide Published bounds choice (at .place) (c .before .before .before .before .before .if1 .left) (c .before .published-at .ensures) in
+    (omega arith, none-more (past Published bounds choice) (at .place) (at .inv .1) (decided ∙ ap not (c .if2 .taken)))
 
 returns-2 : tie.Need-returns-2 Inv-loop μ-loop
 unfolding withinBounds
 returns-2 c =
-    let low = c .before .before .before .before in
-    let at = low .before .before in
-    let known = at .before .weighed in
-    let args = at .before .before .args in
-    let decided = limits-decide Published (args .t1) (args .t2) (at .loop .place) (low .if1 .left) (known .result) (known .ensures) (c .before .published-at .ensures) in
-    sym (ap not (some-found (past Published (args .t1) (args .t2)) (at .loop .place) (args .t1 .count) (low .before .loop-test .taken) (decided ∙ ap not (c .if2 .left))))
+    let at = c .before .before .before .before .before .before .before .before .loop in
+    let args = c .before .before .before .before .before .before .before .before .before .before .args in
+    let choice = args .choice .now in
+    let bounds = boundsIn 0 (args .count) (args .priorities .now) (args .backups .now) (args .limits .now) in
+    let decided = limits-decide Published bounds choice (at .place) (c .before .before .before .before .before .if1 .left) (c .before .published-at .ensures) in
+    sym (ap not (some-found (past Published bounds choice) (at .place) (args .count) (c .before .before .before .before .before .before .before .loop-test .taken) (decided ∙ ap not (c .if2 .left))))
 
 returns-3 : tie.Need-returns-3 Inv-loop μ-loop
 unfolding withinBounds
 returns-3 c =
+    let at = c .before .loop in
     let args = c .before .before .before .args in
-    let all : c .before .loop .place ≡ args .t1 .count = omega arith in
-    sym (ap not (ap (someBelow (past Published (args .t1) (args .t2))) (sym all) ∙ c .before .loop .inv .1))
+    let choice = args .choice .now in
+    let bounds = boundsIn 0 (args .count) (args .priorities .now) (args .backups .now) (args .limits .now) in
+    let all : at .place ≡ args .count = omega arith in
+    sym (ap not (ap (someBelow (past Published bounds choice)) (sym all) ∙ at .inv .1))
 
 pub each-published-spec : {M : Type 1} → statement M
 each-published-spec =
@@ -111,10 +110,9 @@ each-published-spec =
     (tie.spec
     Inv-loop
     μ-loop
-    weighed-requires
-    cast-count
+    tops-of-requires
     loop-holds
-    array-read-fault
+    element-copy-out-fault
     returns
     mul-limit
     cast-limit

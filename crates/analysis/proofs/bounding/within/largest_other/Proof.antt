@@ -19,10 +19,10 @@ abbrev brought : List ℕ → List ℕ → ℕ → ℕ → ℕ → ℕ
 brought backups choice place priority k = cond (others place k && leb priority (getD choice k 0)) (getD backups k 0) 0
 
 abbrev Inv-loop : tie.InvT-loop
-Inv-loop count place priority backups choice most₀ other₀ most other = (other ≤ count) × (most ≡ mostBelow (brought backups choice place priority) other)
+Inv-loop backups choice count place priority most₀ other₀ most other = (other ≤ count) × (most ≡ mostBelow (brought backups choice place priority) other)
 
 abbrev μ-loop : tie.MeasureT-loop
-μ-loop count place priority backups choice most₀ other₀ most other = count - other
+μ-loop backups choice count place priority most₀ other₀ most other = count - other
 
 loop-holds : tie.Need-loop-holds Inv-loop μ-loop
 unfolding mostBelow
@@ -31,11 +31,11 @@ loop-holds c = search needs
 mul-backup-of : tie.Need-mul-backup-of Inv-loop μ-loop
 mul-backup-of c = search needs
 
-array-read-backup-of : tie.Need-array-read-backup-of Inv-loop μ-loop
-array-read-backup-of c = search needs
+element-copy-out-backup-of : tie.Need-element-copy-out-backup-of Inv-loop μ-loop
+element-copy-out-backup-of c = search needs
 
-array-read-backup-of-2 : tie.Need-array-read-backup-of-2 Inv-loop μ-loop
-array-read-backup-of-2 c = search needs
+element-copy-out-backup-of-2 : tie.Need-element-copy-out-backup-of-2 Inv-loop μ-loop
+element-copy-out-backup-of-2 c = search needs
 
 backup-of-requires : tie.Need-backup-of-requires Inv-loop μ-loop
 backup-of-requires c κs = search needs
@@ -52,11 +52,11 @@ loop-less c = search needs
 loop-again : tie.Need-loop-again Inv-loop μ-loop
 unfolding others
 loop-again c =
-    let turn = c .before .before in
+    let turn = c .before .before .before .before in
     let at = turn .before .loop in
     let given = turn .before .before in (
       search needs,
-      c .larger .ensures ∙ ap₂ max (at .inv .1) (c .before .backup-of .ensures) ∙ sym (most-more (brought (given .args .t1) (given .args .t2) (given .args .place) (given .args .priority)) (at .other)),
+      c .larger .ensures ∙ ap₂ max (at .inv .1) (c .before .backup-of .ensures) ∙ sym (most-more (brought (given .args .backups .now) (given .args .choice .now) (given .args .place) (given .args .priority)) (at .other)),
     )
 
 returns : tie.Need-returns Inv-loop μ-loop
@@ -64,7 +64,7 @@ unfolding largestOf
 returns c =
     let given = c .before .before in
     let all : c .before .loop .other ≡ given .args .count = omega arith in
-    c .before .loop .inv .1 ∙ ap (mostBelow (brought (given .args .t1) (given .args .t2) (given .args .place) (given .args .priority))) all
+    c .before .loop .inv .1 ∙ ap (mostBelow (brought (given .args .backups .now) (given .args .choice .now) (given .args .place) (given .args .priority))) all
 
 pub largest-other-spec : {M : Type 1} → statement M
 largest-other-spec =
@@ -74,8 +74,8 @@ largest-other-spec =
     μ-loop
     loop-holds
     mul-backup-of
-    array-read-backup-of
-    array-read-backup-of-2
+    element-copy-out-backup-of
+    element-copy-out-backup-of-2
     backup-of-requires
     larger-requires
     add-other

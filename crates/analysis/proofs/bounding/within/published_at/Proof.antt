@@ -26,22 +26,27 @@ half-wide-requires c κs = search needs
 
 -- the top that is read
 topmost : (c : tie.After-half-wide)
-    → c .half-wide .result ≡ largestOf (c .before .before .before .args .t1 .backups) (c .before .before .before .args .t1 .choice) everyone (getD (c .before .before .before .args .t1 .choice) (c .before .before .before .args .place) 0) (c .before .before .before .args .t1 .count)
-topmost c = c .half-wide .ensures .0 ∙ c .before .before .before .pre .0 .tops _ (omega (arith, c .before .before .before .pre .1 .1))
+    → c .half-wide .result ≡ largestOf (c .before .before .before .args .backups .now) (c .before .before .before .args .choice .now) everyone (getD (c .before .before .before .args .choice .now) (c .before .before .before .args .place) 0) (c .before .before .before .args .count)
+topmost c = c .half-wide .ensures .0 ∙ c .before .before .before .pre .1 .0 _ (omega (arith, c .before .before .before .pre .1 .1 .1))
 
 returns : tie.Need-returns
 returns c =
     let args = c .before .before .before .before .args in
-    top-past (args .t1 .backups) (args .t1 .priorities) (args .t1 .choice) (args .t1 .count) (args .place) (args .limit) (topmost (c .before)) (args .limit-elsewhere) (c .if1 .taken)
+    top-past (args .backups .now) (args .priorities .now) (args .choice .now) (args .count) (args .place) (args .limit) (topmost (c .before)) (args .limit-elsewhere) (c .if1 .taken)
+
+element-copy-out-elsewhere-within : tie.Need-element-copy-out-elsewhere-within
+element-copy-out-elsewhere-within c = search needs
 
 elsewhere-within-requires : tie.Need-elsewhere-within-requires
-elsewhere-within-requires c κs = search needs
+elsewhere-within-requires c κs =
+    let given = c .before .before .before .before .before in
+    (given .pre .0, given .pre .1 .0)
 
 returns-2 : tie.Need-returns-2
 returns-2 c =
-    let top = c .before .before in
+    let top = c .before .before .before in
     let args = top .before .before .before .args in
-    top-under (args .t1 .backups) (args .t1 .priorities) (args .t1 .choice) (args .t1 .count) (args .place) (args .limit) (topmost top) (args .limit-elsewhere) (c .before .if1 .left) (c .elsewhere-within .ensures)
+    top-under (args .backups .now) (args .priorities .now) (args .choice .now) (args .count) (args .place) (args .limit) (topmost top) (args .limit-elsewhere) (c .before .before .if1 .left) (c .elsewhere-within .ensures)
 
 pub published-at-spec : {M : Type 1} → statement M
 published-at-spec =
@@ -53,5 +58,6 @@ published-at-spec =
     element-copy-out-half-wide
     half-wide-requires
     returns
+    element-copy-out-elsewhere-within
     elsewhere-within-requires
     returns-2)

@@ -17,46 +17,46 @@ use Rattle.analysis.proofs.bounding.within.put_in.Statement.{statement}
 use Rattle.analysis.proofs.bounding.within.put_in.Tie as tie
 
 abbrev Inv-loop : tie.InvT-loop
-Inv-loop fault backup raised₀ priority₀ raised priority =
-    (priority ≤ 9) × (priority ≤ fault + 1) × (length raised ≡ 9)
-    × ((k : ℕ) → k < priority → getD raised k 0 ≡ max (getD raised₀ k 0) backup) × ((k : ℕ) → priority ≤ k → getD raised k 0 ≡ getD raised₀ k 0)
+Inv-loop fault backup tops₀ priority₀ tops priority =
+    (priority ≤ 9) × (priority ≤ fault + 1) × (length tops ≡ 9)
+    × ((k : ℕ) → k < priority → getD tops k 0 ≡ max (getD tops₀ k 0) backup) × ((k : ℕ) → priority ≤ k → getD tops k 0 ≡ getD tops₀ k 0)
 
 abbrev μ-loop : tie.MeasureT-loop
-μ-loop fault backup raised₀ priority₀ raised priority = 9 - priority
+μ-loop fault backup tops₀ priority₀ tops priority = 9 - priority
 
 -- where no priority from the one reached on is within the fault, all have what they are to have
-put-in-done : (fault backup : ℕ) (tops raised : List ℕ) (reached : ℕ) → reached ≤ fault + 1 → ((k : ℕ) → reached ≤ k → k < 9 → fault < k)
-    → ((k : ℕ) → k < reached → getD raised k 0 ≡ max (getD tops k 0) backup) → ((k : ℕ) → reached ≤ k → getD raised k 0 ≡ getD tops k 0)
-    → (k : ℕ) → k < 9 → getD raised k 0 ≡ max (getD tops k 0) (cond (leb k fault) backup 0)
-put-in-done fault backup tops raised reached within past below above k low = go (decLt k reached)
+put-in-done : (fault backup : ℕ) (before tops : List ℕ) (reached : ℕ) → reached ≤ fault + 1 → ((k : ℕ) → reached ≤ k → k < 9 → fault < k)
+    → ((k : ℕ) → k < reached → getD tops k 0 ≡ max (getD before k 0) backup) → ((k : ℕ) → reached ≤ k → getD tops k 0 ≡ getD before k 0)
+    → (k : ℕ) → k < 9 → getD tops k 0 ≡ max (getD before k 0) (cond (leb k fault) backup 0)
+put-in-done fault backup before tops reached within past below above k low = go (decLt k reached)
   where
-    go : Dec (k < reached) → getD raised k 0 ≡ max (getD tops k 0) (cond (leb k fault) backup 0)
+    go : Dec (k < reached) → getD tops k 0 ≡ max (getD before k 0) (cond (leb k fault) backup 0)
     go (yes h) = rw (le-leb k fault (omega arith)) (below k h)
     go (no h) = rw (lt-leb k fault (past k (omega arith) low)) (omega (arith, above k (omega arith)))
 
 loop-holds : tie.Need-loop-holds Inv-loop μ-loop
-loop-holds c = (omega arith, omega arith, search needs, λ k low. absurd (omega arith), λ k low. refl)
+loop-holds c = (omega arith, omega arith, c .pre, λ k low. absurd (omega arith), λ k low. refl)
 
 returns : tie.Need-returns Inv-loop μ-loop
 returns c =
     let at = c .before .before .loop in
-    let given = c .before .before .before in
-    put-in-done (given .args .fault) (given .args .backup) (given .args .tops) (at .raised) (at .priority) (at .inv .1) (λ k past low. omega arith) (at .inv .3) (at .inv .4)
+    let args = c .before .before .before .args in
+    (at .inv .2, put-in-done (args .fault) (args .backup) (args .tops .now) (at .tops) (at .priority) (at .inv .1) (λ k past low. omega arith) (at .inv .3) (at .inv .4))
 
 mul-larger : tie.Need-mul-larger Inv-loop μ-loop
 mul-larger c = search needs
 
-array-read-larger : tie.Need-array-read-larger Inv-loop μ-loop
-array-read-larger c = search needs
+element-copy-out-larger : tie.Need-element-copy-out-larger Inv-loop μ-loop
+element-copy-out-larger c = search needs
 
 larger-requires : tie.Need-larger-requires Inv-loop μ-loop
 larger-requires c κs = search needs
 
-mul-raised : tie.Need-mul-raised Inv-loop μ-loop
-mul-raised c = search needs
+mul-tops : tie.Need-mul-tops Inv-loop μ-loop
+mul-tops c = search needs
 
-array-write-raised : tie.Need-array-write-raised Inv-loop μ-loop
-array-write-raised c = search needs
+element-write-tops : tie.Need-element-write-tops Inv-loop μ-loop
+element-write-tops c = search needs
 
 add-priority : tie.Need-add-priority Inv-loop μ-loop
 add-priority c = search needs
@@ -66,21 +66,21 @@ loop-less c = search needs
 
 loop-again : tie.Need-loop-again Inv-loop μ-loop
 loop-again c =
-    let at = c .before .before .before .loop in
-    let given = c .before .before .before .before in (
+    let at = c .before .before .before .before .loop in
+    let args = c .before .before .before .before .before .args in (
       omega arith,
       omega arith,
-      length-set (at .raised) _ _ ∙ at .inv .2,
-      λ k low. ⊎-elim (λ e. ap (λ (j : ℕ). getD (set (at .raised) (at .priority) (c .larger .result)) j 0) e ∙ getD-set-same (at .raised) (at .priority) _ 0 (omega (arith, at .inv .2)) ∙ c .larger .ensures ∙ ap (λ (n : ℕ). max n (given .args .backup)) (at .inv .4 (at .priority) (omega arith) ∙ ap (λ (j : ℕ). getD (given .args .tops) j 0) (sym e)))
-          (λ lt. getD-set-other (at .raised) (at .priority) k _ 0 (λ e. omega arith) ∙ at .inv .3 k lt) (eq-or-lt-of-le (le-of-suc-le-suc (subst (λ (m : ℕ). k < m) (add-one (at .priority)) low))),
-      λ k high. getD-set-other (at .raised) (at .priority) k _ 0 (λ e. omega arith) ∙ at .inv .4 k (omega arith),
+      length-set (at .tops) _ _ ∙ at .inv .2,
+      λ k low. ⊎-elim (λ e. ap (λ (j : ℕ). getD (set (at .tops) (at .priority) (c .larger .result)) j 0) e ∙ getD-set-same (at .tops) (at .priority) _ 0 (omega (arith, at .inv .2)) ∙ c .larger .ensures ∙ ap (λ (n : ℕ). max n (args .backup)) (at .inv .4 (at .priority) (omega arith) ∙ ap (λ (j : ℕ). getD (args .tops .now) j 0) (sym e)))
+          (λ lt. getD-set-other (at .tops) (at .priority) k _ 0 (λ e. omega arith) ∙ at .inv .3 k lt) (eq-or-lt-of-le (le-of-suc-le-suc (subst (λ (m : ℕ). k < m) (add-one (at .priority)) low))),
+      λ k high. getD-set-other (at .tops) (at .priority) k _ 0 (λ e. omega arith) ∙ at .inv .4 k (omega arith),
     )
 
 returns-2 : tie.Need-returns-2 Inv-loop μ-loop
 returns-2 c =
     let at = c .before .loop in
-    let given = c .before .before in
-    put-in-done (given .args .fault) (given .args .backup) (given .args .tops) (at .raised) (at .priority) (at .inv .1) (λ k past low. absurd (omega arith)) (at .inv .3) (at .inv .4)
+    let args = c .before .before .args in
+    (at .inv .2, put-in-done (args .fault) (args .backup) (args .tops .now) (at .tops) (at .priority) (at .inv .1) (λ k past low. absurd (omega arith)) (at .inv .3) (at .inv .4))
 
 pub put-in-spec : {M : Type 1} → statement M
 put-in-spec =
@@ -91,10 +91,10 @@ put-in-spec =
     loop-holds
     returns
     mul-larger
-    array-read-larger
+    element-copy-out-larger
     larger-requires
-    mul-raised
-    array-write-raised
+    mul-tops
+    element-write-tops
     add-priority
     loop-less
     loop-again

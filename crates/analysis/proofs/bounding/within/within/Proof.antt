@@ -1,7 +1,7 @@
 -- `analysis::bounding::within::within` meets its contract. Assumes nothing.
 use mathlib.Core.Path.{sym, ap, _∙_}
 use Rattle.analysis.specs.declared.Rule.{Rule}
-use Rattle.analysis.specs.Bounds.Within.{withinBounds}
+use Rattle.analysis.specs.Bounds.Within.{boundsIn, withinBounds}
 use borrow.Author.Needs.{needs}
 use Rattle.analysis.proofs.bounding.within.within.Statement.{statement}
 use Rattle.analysis.proofs.bounding.within.within.Tie as tie
@@ -21,12 +21,12 @@ each-assured-requires c κs = search needs
 returns : tie.Need-returns
 returns c =
     let args = c .before .before .before .args in
-    c .each-published .ensures ∙ sym (ap (λ (rule : Rule). withinBounds rule (args .bounds) (args .choice)) (c .before .enum-told .given .1))
+    c .each-published .ensures ∙ sym (ap (λ (rule : Rule). withinBounds rule (boundsIn 0 (args .count) (args .priorities .now) (args .backups .now) (args .limits .now)) (args .choice .now)) (c .before .enum-told .given .1))
 
 returns-2 : tie.Need-returns-2
 returns-2 c =
     let args = c .before .before .before .args in
-    c .each-assured .ensures ∙ sym (ap (λ (rule : Rule). withinBounds rule (args .bounds) (args .choice)) (c .before .enum-told2 .given .1))
+    c .each-assured .ensures ∙ sym (ap (λ (rule : Rule). withinBounds rule (boundsIn 0 (args .count) (args .priorities .now) (args .backups .now) (args .limits .now)) (args .choice .now)) (c .before .enum-told2 .given .1))
 
 pub within-spec : {M : Type 1} → statement M
 within-spec = tie.close (tie.spec enum-told each-published-requires enum-told-2 each-assured-requires returns returns-2)

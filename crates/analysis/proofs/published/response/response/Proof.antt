@@ -3,8 +3,8 @@ use mathlib.Core.Path.{_≡_, sym, ap₂, _∙_}
 use Prim.Native.Nat.{max}
 use native.Mathlib.Omega.{arith}
 use Rattle.analysis.proofs.Laws.Published.Larger.{late-elsewhere, late-itself, on-time}
-use Rattle.analysis.specs.Common.Tasks.{tasksOf}
 use Rattle.analysis.specs.Published.Response.{responseWithin}
+use Rattle.analysis.specs.Common.ByRank.{ranked}
 use borrow.Author.Needs.{needs}
 use Rattle.analysis.proofs.published.response.response.Statement.{statement}
 use Rattle.analysis.proofs.published.response.response.Tie as tie
@@ -12,7 +12,7 @@ use Rattle.analysis.proofs.published.response.response.Tie as tie
 -- where neither time is missing, the larger is the response
 both : (c : tie.Else2)
     → let given = c .before .before .before .before in
-    max (c .before .before .before .elsewhere .result) (c .before .itself .result) ≡ responseWithin (given .args .limit) (tasksOf (given .args .table) (given .args .interval) (given .args .faults)) (given .args .rank)
+    max (c .before .before .before .elsewhere .result) (c .before .itself .result) ≡ responseWithin (given .args .limit) (ranked (given .args .columns .now) (given .args .frame) (given .args .faults .now)) (given .args .rank)
 both c =
     let one = c .before .before in
     let first = one .before .elsewhere .ensures .0 in
