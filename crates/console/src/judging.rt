@@ -10,7 +10,7 @@ use streams::words;
 use streams::words::Asked;
 
 // Says where a passing sheet's own choice is not assured. Of a shared processor nothing is assured, and nothing is said.
-fn warn(table: Table) {
+pub fn warn(table: Table) {
     let assured = analysis::assess_by(table, Rule::Assured);
     if (assured.refusal == 0) & !assured.passes {
         explanation::say(

@@ -4,8 +4,8 @@ use intake::explanation;
 use intake::sheets;
 use intake::sheets::Given;
 use report::Name;
-use sheet::Table;
 use streams::endings;
+use streams::parts;
 
 // Prints a refusal's line.
 fn line(refusal: u8) -> u8 {
@@ -29,23 +29,10 @@ pub fn print_of(given: Given, refusal: u8, is_explained: bool) -> u8 {
     print_called(b"", given, refusal, is_explained)
 }
 
-// Prints the refusal of a table.
-pub fn print_of_table(table: Table, refusal: u8, is_explained: bool) -> u8 {
-    let ending = line(refusal);
-    if is_explained {
-        explanation::print_of(b"", table, refusal);
-    }
-    ending
-}
-
 // Prints the refusal of a text at a line and a column.
-pub fn print_at(refusal: u8, line: u64, column: u64, is_explained: bool) -> u8 {
+pub fn print_at(refusal: u8, line: u64, column: u64) -> u8 {
     let refused = report::refused_at_line(refusal, line, column);
-    let ending = output::line(refused, endings::TROUBLE);
-    if is_explained {
-        explanation::print_at(line, column, refusal);
-    }
-    ending
+    output::line(refused, endings::TROUBLE)
 }
 
 // Prints the refusal of one of two sheets.
@@ -53,6 +40,9 @@ pub fn print_called(called: &[u8], given: Given, refusal: u8, is_explained: bool
     let ending = line(refusal);
     if is_explained {
         explanation::print_of(called, sheets::unjudged(given), refusal);
+        let bytes = given.bytes;
+        let length = parts::part(given.length, &bytes);
+        explanation::print_of_text(&bytes[..length]);
     }
     ending
 }

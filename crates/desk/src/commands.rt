@@ -1,10 +1,12 @@
 // The commands: which one a word names, and what carries it out.
-use console::judging;
+use crate::options;
 use records::mending;
 use records::replaying;
 use records::texts;
 use streams::words;
+use streams::words::Asked;
 use verdicts::assuring;
+use verdicts::judging;
 use verdicts::least;
 use verdicts::placing;
 use verdicts::releasing;
@@ -60,16 +62,15 @@ fn named(word: &[u8]) -> Command {
 }
 
 // The command that an argument names.
-fn named_at(place: u8) -> Command {
+fn named_at(place: u16) -> Command {
     let mut word = io::buffer();
     let length = os::arg(place as usize, &mut word);
     named(&word[..length])
 }
 
-// Carries out the command that the argument at a place names; where it names none, the sheet there is judged.
-pub fn run(first: u8, is_explained: bool) -> u8 {
-    let asked = words::asked_from(first as u16 + 1, is_explained);
-    match named_at(first) {
+// Carries out the command that the first of all words names, with those after it; where it names none, the sheets that they name are judged.
+fn carry_out(asked: Asked, unnamed: Asked) -> u8 {
+    match named_at(unnamed.first) {
         Command::Judge => judging::run(asked),
         Command::Interval => least::run(asked),
         Command::Replay => replaying::run(asked, false),
@@ -80,6 +81,19 @@ pub fn run(first: u8, is_explained: bool) -> u8 {
         Command::Release => releasing::run(asked),
         Command::Write => texts::write(asked),
         Command::Show => texts::show(asked),
-        Command::Nothing => judging::run(words::asked_from(first as u16, is_explained)),
+        Command::Nothing => judging::run_named(unnamed),
     }
+}
+
+// Carries out the command that stands at a place, after the options.
+pub fn run(first: u8, is_explained: bool) -> u8 {
+    let read = options::at(first);
+    let options = read.options;
+    if !read.is_good {
+        return words::trouble(b"--scale takes a number, how many of the text's ticks are one");
+    }
+    carry_out(
+        words::asked_with(read.next, is_explained, options),
+        words::asked_with(read.first, is_explained, options),
+    )
 }

@@ -43,18 +43,6 @@ fn say_other_rule(refusal: u8) {
         19 => say(b"the sheet is for a shared processor, and this is answered of a whole one only"),
         23 => say(b"the number of cores is not 1 to 4"),
         24 => say(b"the sheet in use and the candidate have different task counts"),
-        _ => say_text_rule(refusal),
-    }
-}
-
-// Writes the sentence of a text's own rule.
-fn say_text_rule(refusal: u8) {
-    match refusal {
-        30 => say(b"this is neither a number nor a word above the columns"),
-        31 => say(b"this number is too large: priorities end at 15, and all others at 65,535"),
-        32 => say(b"this is a number too many: interval 1, round and share 2, a task 6"),
-        33 => say(b"a number is missing here: interval 1, round and share 2, a task 6"),
-        34 => say(b"this is a ninth task, and a sheet has eight at most"),
         _ => say(b"a rule that this program has no words for"),
     }
 }
@@ -86,13 +74,31 @@ pub fn print_of(called: &[u8], table: Table, refusal: u8) {
     say(b"\n");
 }
 
-// Prints the sentence of the rule that a text breaks at a line and a column.
-pub fn print_at(line: u64, column: u64, refusal: u8) {
-    say(b"desk: line ");
-    io::print_decimal(STDERR_FILENO, line);
-    say(b", column ");
-    io::print_decimal(STDERR_FILENO, column);
-    say(b": ");
-    say_rule(refusal);
-    say(b"\n");
+// Whether a byte is one that texts have.
+fn is_of_text(byte: u8) -> bool {
+    ((32 <= byte) & (byte != 127)) | (byte == b'\t') | (byte == b'\n') | (byte == b'\r')
+}
+
+// Whether bytes look like lines of text.
+fn looks_like_text(bytes: &[u8]) -> bool {
+    let mut has_lines = false;
+    let mut place: usize = 0;
+    while place < bytes.len() {
+        let byte = bytes[place];
+        if !is_of_text(byte) {
+            return false;
+        }
+        has_lines = has_lines | (byte == b'\n');
+        place += 1;
+    }
+    has_lines
+}
+
+// Prints how a text is judged, where refused bytes look like one.
+pub fn print_of_text(bytes: &[u8]) {
+    if looks_like_text(bytes) {
+        say(
+            b"desk: these bytes look like text, which --text or a name that ends in .txt, .csv or .tsv tells apart from a sheet's\n",
+        );
+    }
 }

@@ -3,5 +3,4 @@
 mod following;
 pub mod mending;
 pub mod replaying;
-mod scanning;
 pub mod texts;

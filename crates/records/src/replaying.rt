@@ -2,13 +2,13 @@
 use crate::following;
 use console::output;
 use console::refusals;
-use intake::sheets;
 use intake::sheets::Given;
 use replay::Checked;
 use replay::Counts;
 use replay::Following;
 use report::Name;
 use report::Saying;
+use sources::inputs;
 use streams::endings;
 use streams::input;
 use streams::parts;
@@ -73,10 +73,11 @@ pub fn run(asked: Asked, is_record: bool) -> u8 {
     if input::are_both_standard(words::at(asked, 0), words::at(asked, 1)) {
         return words::standard_input_twice();
     }
-    let given = sheets::read(words::at(asked, 0));
-    if !given.is_read {
+    let source = inputs::sheet_at(asked, words::at(asked, 0));
+    if !source.is_taken {
         return endings::TROUBLE;
     }
+    let given = source.given;
     let read = following::read(words::at(asked, 1), before(given, is_record));
     if !read.is_read {
         return endings::TROUBLE;

@@ -16,8 +16,9 @@ use Rattle.report.specs.declared.Line.{Line}
 use Rattle.report.specs.declared.Name.{Name}
 use Rattle.report.specs.declared.Saying.{Saying}
 use Rattle.report.specs.Pages.{textOf, hasRoom, putEnd, putLeaves}
+use Rattle.report.specs.Words.{recordWord, textLineWord}
 use Rattle.report.specs.Decimal.{digit, decimal, signed, valueAfter, valueOf}
-use Rattle.report.specs.Texts.{namedText, sayingText, taskText, choiceText, coreText, changeText, refusedAtText}
+use Rattle.report.specs.Texts.{namedText, sayingText, taskText, choiceText, coreText, toldText, changeText, lineChangeText, refusedAtText}
 use Rattle.report.proofs.Decimal.{by-digits, length-decimal}
 use Rattle.report.proofs.Fitting.{Held, held, length-word, length-saying, Narrow, length-outcome, length-entries, length-changed}
 
@@ -115,11 +116,21 @@ unfolding coreText
 core-held place core narrow few =
     held (coreText place core) (simp length-append (omega (arith, length-decimal 2 (place + 1) (omega arith), length-decimal 2 core (omega arith))))
 
--- a change's,
+told-held : (word : List ℕ) (number : ℕ) (change : Change) → length word ≤ 7 → number < 2 ^ 64 → change .old < 2 ^ 64 → change .new < 2 ^ 64 → Held (toldText word number change)
+unfolding toldText
+told-held word number change short narrow old new =
+    held (toldText word number change)
+    (simp length-append (omega (arith, length-changed word number (change .field) short narrow, length-decimal 19 (change .old) (omega arith), length-decimal 19 (change .new) (omega arith))))
+
+-- a change's by its record,
 pub change-held : (change : Change) → change .place < 2 ^ 8 → change .old < 2 ^ 64 → change .new < 2 ^ 64 → Held (changeText change)
 unfolding changeText
-change-held change narrow old new =
-    held (changeText change) (simp length-append (omega (arith, length-changed (change .place) (change .field) narrow, length-decimal 19 (change .old) (omega arith), length-decimal 19 (change .new) (omega arith))))
+change-held change narrow old new = told-held recordWord (change .place) change (omega arith) (omega arith) old new
+
+-- and by its line,
+pub line-change-held : (line : ℕ) (change : Change) → line < 2 ^ 64 → change .old < 2 ^ 64 → change .new < 2 ^ 64 → Held (lineChangeText line change)
+unfolding lineChangeText
+line-change-held line change narrow old new = told-held textLineWord line change (omega arith) narrow old new
 
 -- and that of a refusal with its line and column
 pub refused-at-held : (refusal line column : ℕ) → refusal < 2 ^ 8 → line < 2 ^ 64 → column < 2 ^ 64 → Held (refusedAtText refusal line column)

@@ -74,9 +74,9 @@ length-entries choice narrow zero = omega arith
 length-entries choice narrow (suc n) =
     omega (arith, length-append (joinedBelow (entryText choice) n) (entryText choice n), length-entries choice narrow n, length-decimal 2 (getD choice n 0) (omega (arith, narrow n)))
 
--- what a change is made to has at most 25
-pub length-changed : (place : ℕ) (field : Field) → place < 2 ^ 8 → length (changedText place field) ≤ 25
+-- what a change is made to has at most 42
+pub length-changed : (word : List ℕ) (number : ℕ) (field : Field) → length word ≤ 7 → number < 2 ^ 64 → length (changedText word number field) ≤ 42
 unfolding changedText
-length-changed place Length narrow = omega arith
-length-changed place Deadline narrow = simp length-append (omega (arith, length-decimal 2 place (omega arith)))
-length-changed place FaultPriority narrow = simp length-append (omega (arith, length-decimal 2 place (omega arith)))
+length-changed word number Length short narrow = omega arith
+length-changed word number Deadline short narrow = simp length-append (omega (arith, length-decimal 19 number (omega arith)))
+length-changed word number FaultPriority short narrow = simp length-append (omega (arith, length-decimal 19 number (omega arith)))

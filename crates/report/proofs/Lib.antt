@@ -4,6 +4,7 @@ pub mod Putting
 pub mod Signs
 pub mod Pages
 pub mod Fitting
+pub mod Titles
 pub mod Lines
 pub mod Demands
 pub mod Unique

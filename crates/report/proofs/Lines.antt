@@ -16,7 +16,7 @@ use Rattle.report.specs.declared.Line.{Line}
 use Rattle.report.specs.declared.Name.the-variants.{Interval, Least, End, Refused, Attempts, Backups, Idle, Released, Finished, Missed, Unfinished, Differs, FitsNone}
 use Rattle.report.specs.declared.Saying.the-variants.{NoInterval, Accepted, LoadInUse, LoadCandidate}
 use Rattle.report.specs.Decimal.{decimalWithin, decimal, signed}
-use Rattle.report.specs.Texts.{lineOf, wordOf, namedText, sayingText, lateText, outcomeText, taskText, entryText, choiceText, coreText, changedText, changeText, refusedAtText}
+use Rattle.report.specs.Texts.{lineOf, wordOf, namedText, sayingText, lateText, outcomeText, taskText, entryText, choiceText, coreText, changedText, toldText, changeText, lineChangeText, refusedAtText}
 use Rattle.report.specs.Pages.{textOf}
 
 -- three entries as a choice
@@ -101,11 +101,13 @@ lines =
     prints (lineOf (changeText (change 2 Deadline 60 50))) (114 ∷ 101 ∷ 99 ∷ 111 ∷ 114 ∷ 100 ∷ 32 ∷ 50 ∷ 32 ∷ 100 ∷ 101 ∷ 97 ∷ 100 ∷ 108 ∷ 105 ∷ 110 ∷ 101 ∷ 32 ∷ 54 ∷ 48 ∷ 32 ∷ 53 ∷ 48 ∷ 10 ∷ []) ∷
     -- record 3 fault priority 0 1\n
     prints (lineOf (changeText (change 3 FaultPriority 0 1))) (114 ∷ 101 ∷ 99 ∷ 111 ∷ 114 ∷ 100 ∷ 32 ∷ 51 ∷ 32 ∷ 102 ∷ 97 ∷ 117 ∷ 108 ∷ 116 ∷ 32 ∷ 112 ∷ 114 ∷ 105 ∷ 111 ∷ 114 ∷ 105 ∷ 116 ∷ 121 ∷ 32 ∷ 48 ∷ 32 ∷ 49 ∷ 10 ∷ []) ∷
+    -- line 4 deadline 60 50\n
+    prints (lineOf (lineChangeText 4 (change 2 Deadline 60 50))) (108 ∷ 105 ∷ 110 ∷ 101 ∷ 32 ∷ 52 ∷ 32 ∷ 100 ∷ 101 ∷ 97 ∷ 100 ∷ 108 ∷ 105 ∷ 110 ∷ 101 ∷ 32 ∷ 54 ∷ 48 ∷ 32 ∷ 53 ∷ 48 ∷ 10 ∷ []) ∷
     -- refused 31 line 4 column 12\n
     prints (lineOf (refusedAtText 31 4 12)) (114 ∷ 101 ∷ 102 ∷ 117 ∷ 115 ∷ 101 ∷ 100 ∷ 32 ∷ 51 ∷ 49 ∷ 32 ∷ 108 ∷ 105 ∷ 110 ∷ 101 ∷ 32 ∷ 52 ∷ 32 ∷ 99 ∷ 111 ∷ 108 ∷ 117 ∷ 109 ∷ 110 ∷ 32 ∷ 49 ∷ 50 ∷ 10 ∷ []) ∷
     []
 
 -- each of them is what is printed
 pub lines-hold : All lines
-unfolding lines choice timed late change lineOf textOf namedText wordOf sayingText taskText outcomeText lateText choiceText entryText coreText changeText changedText refusedAtText joinedBelow signed decimal decimalWithin
-lines-hold = one refl refl (one refl refl (one refl refl (one refl refl (one refl refl (one refl refl (one refl refl (one refl refl (one refl refl (one refl refl (one refl refl (one refl refl (one refl refl (one refl refl (one refl refl (one refl refl (one refl refl (one refl refl (one refl refl (one refl refl (one refl refl (one refl refl (one refl refl (one refl refl (one refl refl (one refl refl (one refl refl (one refl refl none)))))))))))))))))))))))))))
+unfolding lines choice timed late change lineOf textOf namedText wordOf sayingText taskText outcomeText lateText choiceText entryText coreText changeText lineChangeText toldText changedText refusedAtText joinedBelow signed decimal decimalWithin
+lines-hold = one refl refl (one refl refl (one refl refl (one refl refl (one refl refl (one refl refl (one refl refl (one refl refl (one refl refl (one refl refl (one refl refl (one refl refl (one refl refl (one refl refl (one refl refl (one refl refl (one refl refl (one refl refl (one refl refl (one refl refl (one refl refl (one refl refl (one refl refl (one refl refl (one refl refl (one refl refl (one refl refl (one refl refl (one refl refl none))))))))))))))))))))))))))))

@@ -11,7 +11,9 @@ use Rattle.report.proofs.task_line.Reads as task
 use Rattle.report.proofs.choice_line.Reads as choice
 use Rattle.report.proofs.core_line.Reads as core
 use Rattle.report.proofs.change_line.Reads as change
+use Rattle.report.proofs.line_change_line.Reads as line-change
 use Rattle.report.proofs.refused_at_line.Reads as refused-at
+use Rattle.report.proofs.titled_line.Reads as titled
 use Rattle.report.proofs.put_line.Reads as put
 
 pub named-line-unique : (κs : Lfts 0) (args : _) (a b : Line) (s u : _) → named.Learnt κs args a s → named.Learnt κs args b u → a ≡ b
@@ -32,8 +34,14 @@ core-line-unique κs args a b s u = both
 pub change-line-unique : (κs : Lfts 0) (args : _) (a b : Line) (s u : _) → change.Learnt κs args a s → change.Learnt κs args b u → a ≡ b
 change-line-unique κs args a b s u = both
 
+pub line-change-line-unique : (κs : Lfts 0) (args : _) (a b : Line) (s u : _) → line-change.Learnt κs args a s → line-change.Learnt κs args b u → a ≡ b
+line-change-line-unique κs args a b s u = both
+
 pub refused-at-line-unique : (κs : Lfts 0) (args : _) (a b : Line) (s u : _) → refused-at.Learnt κs args a s → refused-at.Learnt κs args b u → a ≡ b
 refused-at-line-unique κs args a b s u = both
+
+pub titled-line-unique : (κs : Lfts 1) (args : _) (a b : Line) (s u : _) → titled.Learnt κs args a s → titled.Learnt κs args b u → a ≡ b
+titled-line-unique κs args a b s u = both
 
 -- the output is the second parameter
 pub put-line-unique : (κs : Lfts 1) (args : _) (a b : ℕ) (s u : _) → put.Learnt κs args a s → put.Learnt κs args b u → (a ≡ b) × (now (s .1 .0) ≡ now (u .1 .0))

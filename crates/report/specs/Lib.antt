@@ -4,3 +4,4 @@ pub mod Decimal
 pub mod Texts
 pub mod Pages
 pub mod Putting
+pub mod Titles

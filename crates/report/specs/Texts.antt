@@ -42,6 +42,7 @@ use Rattle.report.specs.Words.{
   coreWord,
   lengthWord,
   deadlineWord,
+  textLineWord,
   faultPriorityWord,
   lineWord,
   columnWord,
@@ -108,15 +109,23 @@ choiceText count choice = passWord ++ joinedBelow (entryText choice) (min count 
 unfoldable pub coreText : ℕ → ℕ → List ℕ
 coreText place core = recordWord ++ decimal (place + 1) ++ coreWord ++ decimal core ++ newline
 
--- what a change is made to: the sheet's length, or a record's deadline or fault priority, with the record's place as the change has it
-unfoldable pub changedText : ℕ → Field → List ℕ
-changedText place Length = lengthWord
-changedText place Deadline = recordWord ++ decimal place ++ deadlineWord
-changedText place FaultPriority = recordWord ++ decimal place ++ faultPriorityWord
+-- what a change is made to: the sheet's length, or a deadline or fault priority of what a word and a number name
+unfoldable pub changedText : List ℕ → ℕ → Field → List ℕ
+changedText word number Length = lengthWord
+changedText word number Deadline = word ++ decimal number ++ deadlineWord
+changedText word number FaultPriority = word ++ decimal number ++ faultPriorityWord
 
--- "a line for each change": its old and its new value
+-- a line of a change: its old and its new value
+unfoldable pub toldText : List ℕ → ℕ → Change → List ℕ
+toldText word number change = changedText word number (change .field) ++ space ++ decimal (change .old) ++ space ++ decimal (change .new) ++ newline
+
+-- "a line for each change": by its record, with the record's place as the change has it
 unfoldable pub changeText : Change → List ℕ
-changeText change = changedText (change .place) (change .field) ++ space ++ decimal (change .old) ++ space ++ decimal (change .new) ++ newline
+changeText change = toldText recordWord (change .place) change
+
+-- of a text "its changes are then told by line"
+unfoldable pub lineChangeText : ℕ → Change → List ℕ
+lineChangeText line change = toldText textLineWord line change
 
 -- "the line and column of the first thing that is not understood, with a number of its own"
 unfoldable pub refusedAtText : ℕ → ℕ → ℕ → List ℕ

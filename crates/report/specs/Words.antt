@@ -102,6 +102,10 @@ deadlineWord = 32 ∷ 100 ∷ 101 ∷ 97 ∷ 100 ∷ 108 ∷ 105 ∷ 110 ∷ 101
 abbrev pub faultPriorityWord : List ℕ
 faultPriorityWord = 32 ∷ 102 ∷ 97 ∷ 117 ∷ 108 ∷ 116 ∷ 32 ∷ 112 ∷ 114 ∷ 105 ∷ 111 ∷ 114 ∷ 105 ∷ 116 ∷ 121 ∷ []
 
+-- "line "
+abbrev pub textLineWord : List ℕ
+textLineWord = 108 ∷ 105 ∷ 110 ∷ 101 ∷ 32 ∷ []
+
 -- " line "
 abbrev pub lineWord : List ℕ
 lineWord = 32 ∷ 108 ∷ 105 ∷ 110 ∷ 101 ∷ 32 ∷ []

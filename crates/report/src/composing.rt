@@ -8,11 +8,14 @@ ghost use mathlib.Core.Bool.{true};
 ghost use lib.IntN.{pos, natAbs};
 ghost use lib.Signed.{ltZ};
 ghost use Rattle.report.specs.Decimal.{digit, decimal, signed};
-ghost use Rattle.report.specs.Texts.{lineOf, lateText, outcomeText, changedText};
+ghost use Rattle.report.specs.Texts.{lineOf, lateText, outcomeText, changedText, toldText};
 ghost use Rattle.report.specs.Putting.{Room, put};
+ghost use Rattle.report.specs.Titles.{takesName, openedLine};
 use crate::Line;
+use crate::page;
 use analysis::Outcome;
 use analysis::Slack;
+use mend::Change;
 use mend::Field;
 
 // One byte more.
@@ -159,16 +162,49 @@ pub fn entries(count: u8) -> usize
     if count < 8 { count as usize } else { 8 }
 }
 
-// What a change is made to: the length, or a record's field.
-pub fn changed(place: u8, field: Field) -> Line
-    ensures answer { λ r. ⌜ r ≡ lineOf (changedText place field) ⌝ }
+// What a change is made to: the length, or a field of what a word and a number name.
+fn changed(word: &[u8], number: u64, field: Field) -> Line
+    requires { ⌜ length (now word) ≤ 7 ⌝ }
+    ensures answer { λ r. ⌜ r ≡ lineOf (changedText (now (word .entry)) number field) ⌝ }
     ensures bounded { λ r. ⌜ r .len ≤ 42 ⌝ }
 {
     match field {
         Field::Length => begun(b"length"),
-        Field::Deadline => with_word(labelled(b"record ", place as u64), b" deadline"),
-        Field::FaultPriority => {
-            with_word(labelled(b"record ", place as u64), b" fault priority")
-        }
+        Field::Deadline => with_word(labelled(word, number), b" deadline"),
+        Field::FaultPriority => with_word(labelled(word, number), b" fault priority"),
     }
+}
+
+// A whole line of a change: what was changed, its old and its new value.
+pub fn told(word: &[u8], number: u64, change: Change) -> Line
+    requires { ⌜ length (now word) ≤ 7 ⌝ }
+    ensures { λ r. ⌜ r ≡ lineOf (toldText (now (word .entry)) number change) ⌝ }
+{
+    let field = change.field;
+    let line = changed(word, number, field);
+    let line = with_labelled(line, b" ", change.old);
+    let line = with_labelled(line, b" ", change.new);
+    with_word(line, b"\n")
+}
+
+// Whether a line of a length takes a name of a size.
+pub fn takes_name(len: usize, size: usize) -> bool
+    ensures { λ r. ⌜ r ≡ takesName len size ⌝ }
+{
+    (len != 0) & ((size != 0) & page::fits(size, 87, len))
+}
+
+// A space and a name before the newline.
+pub fn with_name(line: Line, name: &[u8]) -> Line
+    requires filled { ⌜ 0 < line .len ⌝ }
+    requires room { ⌜ line .len + length (now name) ≤ 87 ⌝ }
+    ensures { λ r. ⌜ r ≡ put (openedLine line) ((space ++ now (name .entry)) ++ newline) ⌝ }
+{
+    let bytes = line.bytes;
+    let opened = Line {
+        bytes,
+        len: line.len - 1,
+    };
+    let named = with_word(with_word(opened, b" "), name);
+    with_word(named, b"\n")
 }

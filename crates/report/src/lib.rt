@@ -1,7 +1,8 @@
 // The program's lines as bytes: one call for each kind of line, which answers any arguments with the whole line and its newline, and one that puts a line into an output.
 ghost use mathlib.Core.Path.{_≡_};
-ghost use Rattle.report.specs.Texts.{lineOf, namedText, sayingText, taskText, choiceText, coreText, changeText, refusedAtText};
+ghost use Rattle.report.specs.Texts.{lineOf, namedText, sayingText, taskText, choiceText, coreText, changeText, lineChangeText, refusedAtText};
 ghost use Rattle.report.specs.Pages.{putEnd, putLeaves};
+ghost use Rattle.report.specs.Titles.{titledLine};
 use analysis::Entry;
 use mend::Change;
 
@@ -109,15 +110,18 @@ pub fn core_line(place: u8, core: u8) -> Line
     composing::with_word(line, b"\n")
 }
 
-// A change that mending made: what was changed, its old and its new value.
+// A change that mending made to a sheet: the record, what was changed of it, its old and its new value.
 pub fn change_line(change: Change) -> Line
     ensures { λ r. ⌜ r ≡ lineOf (changeText change) ⌝ }
 {
-    let field = change.field;
-    let line = composing::changed(change.place, field);
-    let line = composing::with_labelled(line, b" ", change.old);
-    let line = composing::with_labelled(line, b" ", change.new);
-    composing::with_word(line, b"\n")
+    composing::told(b"record ", change.place as u64, change)
+}
+
+// A change that mending made to what a text says: the task's line in the text in the place of the record.
+pub fn line_change_line(line: u64, change: Change) -> Line
+    ensures { λ r. ⌜ r ≡ lineOf (lineChangeText line change) ⌝ }
+{
+    composing::told(b"line ", line, change)
 }
 
 // A refusal's number, and the line and the column of a text at which it stands.
@@ -128,6 +132,16 @@ pub fn refused_at_line(refusal: u8, line: u64, column: u64) -> Line
     let refused = composing::with_labelled(refused, b" line ", line);
     let refused = composing::with_labelled(refused, b" column ", column);
     composing::with_word(refused, b"\n")
+}
+
+// A line with a task's name after it, before its newline; the line itself where there is no name, or no room for it.
+pub fn titled_line(line: Line, name: &[u8]) -> Line
+    ensures { λ r. ⌜ r ≡ titledLine line (now (name .entry)) ⌝ }
+{
+    if composing::takes_name(line.len, name.len()) {
+        return composing::with_name(line, name);
+    }
+    line
 }
 
 // Puts a line's text into the output from a place on: where it ends, or the place itself where it has no room, and then nothing is put.

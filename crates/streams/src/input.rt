@@ -118,7 +118,7 @@ pub fn is_read_to_its_end(opened: i32) -> bool {
 }
 
 // Whether a word is the name of standard input.
-fn is_standard_at(place: usize) -> bool {
+pub fn is_standard_at(place: usize) -> bool {
     let mut word = io::buffer();
     let length = name(place, &mut word);
     is_standard(&word[..length])

@@ -6,30 +6,17 @@ use lib.Dec.{eqb, ltb}
 use lib.ListN.{length, drop}
 use Rattle.places.specs.Refusals.{orElse}
 use Rattle.sheet.specs.declared.Table.{Table}
-use Rattle.sheet.specs.Layout.{noTable}
 use Rattle.sheet.specs.Rules.{tableRefusal}
+use Rattle.lines.specs.declared.Understood.{Understood}
+use Rattle.lines.specs.Answers.{answerAt}
 use Rattle.text.specs.declared.Scan.{Scan}
-use Rattle.text.specs.declared.Understood.{Understood}
 use Rattle.text.specs.declared.Shown.{Shown}
-use Rattle.text.specs.Lines.{first, lineRefusal, nextStage, withLine}
-use Rattle.text.specs.Steps.{rowOf, scanStart, scanned}
+use Rattle.text.specs.Texts.{scanStart, heldLine, readingOf, scanned}
 use Rattle.text.specs.Shown.{textSize, shownText}
-
--- "the line and column of the first thing that is not understood, with a number of its own"
-abbrev pub notUnderstood : ℕ → ℕ → ℕ → Understood
-notUnderstood refusal line column = record { refusal = refusal; line = line; column = column; table = noTable }
-
--- "the sheet, the sheet's refusal": a table that is good, or the number of the rule that it breaks
-unfoldable pub judged : Table → Understood
-judged t = record { refusal = tableRefusal t; line = 0; column = 0; table = cond (eqb (tableRefusal t) 0) t noTable }
-
--- what the text's end brings: a refusal that stands, 33 of its last line, 33 where there is no interval
-unfoldable pub endRefusal : Scan → ℕ
-endRefusal s = orElse (s .refusal) (orElse (lineRefusal (s .stage) (rowOf s)) (cond (eqb (nextStage (s .stage) (rowOf s)) first) 33 0))
 
 -- `finish`: the answer of a scan whose text ends
 unfoldable pub understood : Scan → Understood
-understood s = cond (eqb (endRefusal s) 0) (judged (withLine (s .stage) (s .table) (rowOf s))) (notUnderstood (endRefusal s) (s .line) (s .column))
+understood s = answerAt (readingOf s) (s .line) (heldLine (s .bytes) (s .held))
 
 -- `read`: the answer of a whole text
 unfoldable pub readAnswer : List ℕ → Understood

@@ -1,60 +1,44 @@
-// Sheets as text: what a person types or pastes from a spreadsheet, read in pieces of any length, and the text of a table.
-// Every call answers any bytes, scans and tables; a refusal gives its number, with line and column where it is the text's own, and zeros beside it.
+// Sheets as text: what a person types or pastes from a spreadsheet, read in pieces of any length, scaled to a table, and the text of a table.
+// Every call answers any bytes, scans, figures and tables; a refusal gives its number, with its place where it is the text's own, and zeros beside it.
 ghost use mathlib.Core.Path.{_≡_};
-ghost use Rattle.text.specs.Steps.{scanStart, scanned};
+ghost use Rattle.text.specs.Texts.{scanStart, scanned};
 ghost use Rattle.text.specs.Answers.{understood, readAnswer, showAnswer, showLeaves};
+ghost use Rattle.text.specs.Named.{namedAnswer, namedLeaves};
+ghost use Rattle.text.specs.Scaling.{unjudgedBy, scaledBy};
+use cells::Name;
+use lines::Figures;
+use lines::Reading;
+use lines::Understood;
 use sheet::Table;
 
-mod ending;
-mod judging;
-mod kinds;
-mod lines;
+mod gathering;
+mod naming;
 mod page;
-mod stepping;
+mod scaling;
 
-// What a byte is to the text that it stands in.
-pub enum Kind {
-    Newline,
-    Remark,
-    Hash,
-    Blank,
-    Digit(u8),
-    Other,
-}
-
-// The field that is being read: what the text is within (0 between fields, 1 a number, 2 a word, 3 a comment), the column of the field's
-// first byte, and the value of a number's digits so far.
-pub struct Field {
-    pub within: u8,
-    pub column: u64,
-    pub value: u16,
-}
-
-// The line that is being read: whether it has a word, how many numbers it has so far, and these.
-pub struct Row {
-    pub words: bool,
-    pub count: u8,
-    pub numbers: [u16; 6],
-}
-
-// A text so far: its refusal or 0, the line and the column of the next byte or of the refusal, which line of numbers is to come (0 the
-// interval's, 1 that of round and share or the first task's, 2 a task's), the field and the line that are being read, and the table so far.
+// A text so far: what its lines said, and the line that is being gathered: its number, how many bytes of it are held, whether a double
+// quote is open, whether it is in a comment, whether it has more bytes than are held, and these.
 pub struct Scan {
-    pub refusal: u8,
+    pub reading: Reading,
     pub line: u64,
-    pub column: u64,
-    pub stage: u8,
-    pub field: Field,
-    pub row: Row,
+    pub held: usize,
+    pub quoted: bool,
+    pub comment: bool,
+    pub over: bool,
+    pub bytes: [u8; 512],
+}
+
+// What `scaled` answers: 0 beside the table, or the refusal, for 31 beside the least scale that makes all fit.
+pub struct Fitted {
+    pub refusal: u8,
+    pub least: u64,
     pub table: Table,
 }
 
-// What a text is understood as: 0 beside the table, a table's refusal, or one of the text's own, 30 to 34, beside its line and column.
-pub struct Understood {
-    pub refusal: u8,
-    pub line: u64,
-    pub column: u64,
-    pub table: Table,
+// A name in quotes as it is being put: how many bytes there are, and these, blanks after them.
+pub struct Quote {
+    pub at: usize,
+    pub bytes: [u8; 66],
 }
 
 // What `show` answers: the refusal, or 0 beside the number of bytes written.
@@ -69,13 +53,13 @@ impl Scan {
         ensures { λ r. ⌜ r ≡ scanStart ⌝ }
     {
         Scan {
-            refusal: 0,
+            reading: lines::no_reading(),
             line: 1,
-            column: 1,
-            stage: 0,
-            field: lines::no_field(),
-            row: lines::no_row(),
-            table: lines::no_tasks(),
+            held: 0,
+            quoted: false,
+            comment: false,
+            over: false,
+            bytes: [0u8; 512],
         }
     }
 
@@ -86,7 +70,7 @@ impl Scan {
         let mut scan = self;
         let mut at: usize = 0;
         while at < part.len() {
-            scan = stepping::step(scan, part[at]);
+            scan = gathering::step(scan, part[at]);
             at += 1;
         }
         scan
@@ -96,13 +80,7 @@ impl Scan {
     pub fn finish(self) -> Understood
         ensures { λ r. ⌜ r ≡ understood self ⌝ }
     {
-        let refusal = ending::end_refusal(self);
-        if refusal != 0 {
-            return ending::not_understood(refusal, self.line, self.column);
-        }
-        let table = self.table;
-        let row = stepping::row_of(self);
-        ending::judged(lines::with_line(self.stage, table, row))
+        gathering::understood(self)
     }
 }
 
@@ -113,10 +91,26 @@ pub fn read(text: &[u8]) -> Understood
     Scan::start().take(text).finish()
 }
 
+// The table of figures at a scale.
+pub fn scaled(figures: Figures, scale: u64) -> Fitted
+    ensures { λ r. ⌜ r ≡ scaledBy figures scale ⌝ }
+{
+    scaling::scaled(figures, scale)
+}
+
+// The table of figures at a scale, whatever rules it breaks and whatever does not fit; of zeros at a scale of 0.
+pub fn unjudged(figures: Figures, scale: u64) -> Table
+    ensures { λ r. ⌜ r ≡ unjudgedBy figures scale ⌝ }
+{
+    if scale == 0 {
+        return scaling::no_table();
+    }
+    scaling::scaled_table(figures, scale)
+}
+
 // Writes a good table's text at the start of the output.
 pub fn show(table: Table, out: &mut [u8]) -> Shown
-    ensures answer { λ r. ⌜ r ≡ showAnswer table (now (out .entry)) ⌝ }
-    ensures leaves { λ _. ⌜ now (out .exit) ≡ showLeaves table (now (out .entry)) ⌝ }
+    ensures { λ r. ⌜ (r ≡ showAnswer table (now (out .entry))) × (now (out .exit) ≡ showLeaves table (now (out .entry))) ⌝ }
 {
     let broken = sheet::judge_table(table);
     if broken != 0 {
@@ -133,5 +127,27 @@ pub fn show(table: Table, out: &mut [u8]) -> Shown
         };
     }
     page::put_table(out, table);
+    Shown { refusal: 0, size }
+}
+
+// Writes a good table's text with its tasks' names at the start of the output.
+pub fn show_named(table: Table, names: [Name; 8], out: &mut [u8]) -> Shown
+    ensures { λ r. ⌜ (r ≡ namedAnswer table (now (out .entry))) × (now (out .exit) ≡ namedLeaves table names (now (out .entry))) ⌝ }
+{
+    let broken = sheet::judge_table(table);
+    if broken != 0 {
+        return Shown {
+            refusal: broken,
+            size: 0,
+        };
+    }
+    let size = naming::size(table.round, table.share, table.count);
+    if out.len() < size {
+        return Shown {
+            refusal: 11,
+            size: 0,
+        };
+    }
+    naming::put_table(out, table, names);
     Shown { refusal: 0, size }
 }

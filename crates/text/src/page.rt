@@ -18,7 +18,7 @@ pub fn size(round: u16, share: u16, count: u8) -> usize
     ensures { λ r. ⌜ r ≡ 73 + 36 * editionFor round share + 51 * count ⌝ }
 {
     let tasks = 73 + 51 * count as usize;
-    if sheet::is_whole(round, share) {
+    if (round == 1) & (share == 1) {
         tasks
     } else {
         tasks + 36
@@ -26,7 +26,7 @@ pub fn size(round: u16, share: u16, count: u8) -> usize
 }
 
 // Puts bytes from a place on.
-fn put(out: &mut [u8], at: usize, bytes: &[u8])
+pub fn put(out: &mut [u8], at: usize, bytes: &[u8])
     requires { ⌜ at + length (now bytes) ≤ length (now out) ⌝ }
     ensures { λ _. ⌜ Put (now (out .entry)) at (now (bytes .entry)) (length (now (bytes .entry))) (now (out .exit)) ⌝ }
 {
@@ -39,8 +39,7 @@ fn put(out: &mut [u8], at: usize, bytes: &[u8])
 
 // A number at the right end of ten bytes.
 fn cell(number: u16) -> [u8; 10]
-    ensures padded { λ r. ⌜ r ≡ padded 10 number ⌝ }
-    ensures short { λ _. ⌜ length (decimal number) ≤ 5 ⌝ }
+    ensures { λ r. ⌜ (r ≡ padded 10 number) × (length (decimal number) ≤ 5) ⌝ }
 {
     let mut bytes = [b' '; 10];
     bytes[9] = b'0' + (number % 10) as u8;
@@ -56,10 +55,8 @@ fn cell(number: u16) -> [u8; 10]
 
 // Puts a number at the right end of a column, and says where that ends.
 fn put_number(out: &mut [u8], at: usize, number: u16, column: usize) -> usize
-    requires column { ⌜ column < 6 ⌝ }
-    requires room { ⌜ at + getD widths column 0 ≤ length (now out) ⌝ }
-    ensures end { λ r. ⌜ r ≡ at + getD widths column 0 ⌝ }
-    ensures put { λ _. ⌜ Put (now (out .entry)) at (padded (getD widths column 0) number) (getD widths column 0) (now (out .exit)) ⌝ }
+    requires { ⌜ (column < 6) × (at + getD widths column 0 ≤ length (now out)) ⌝ }
+    ensures { λ r. ⌜ (r ≡ at + getD widths column 0) × Put (now (out .entry)) at (padded (getD widths column 0) number) (getD widths column 0) (now (out .exit)) ⌝ }
 {
     let width = WIDTHS[column];
     let bytes = cell(number);
@@ -69,11 +66,9 @@ fn put_number(out: &mut [u8], at: usize, number: u16, column: usize) -> usize
 }
 
 // Puts a line of so many numbers, and says where it ends.
-fn put_row(out: &mut [u8], at: usize, numbers: [u16; 6], count: usize) -> usize
-    requires few { ⌜ count ≤ 6 ⌝ }
-    requires room { ⌜ at + 51 ≤ length (now out) ⌝ }
-    ensures end { λ r. ⌜ r ≡ at + (columnAt count + 1) ⌝ }
-    ensures put { λ _. ⌜ Put (now (out .entry)) at (rowText numbers count) (columnAt count + 1) (now (out .exit)) ⌝ }
+pub fn put_row(out: &mut [u8], at: usize, numbers: [u16; 6], count: usize) -> usize
+    requires { ⌜ (count ≤ 6) × (at + 51 ≤ length (now out)) ⌝ }
+    ensures { λ r. ⌜ (r ≡ at + (columnAt count + 1)) × Put (now (out .entry)) at (rowText numbers count) (columnAt count + 1) (now (out .exit)) ⌝ }
 {
     let mut end = at;
     let mut place: usize = 0;
@@ -86,12 +81,11 @@ fn put_row(out: &mut [u8], at: usize, numbers: [u16; 6], count: usize) -> usize
 }
 
 // Puts the lines of round and share, where there are any, and says where they end.
-fn put_share(out: &mut [u8], at: usize, round: u16, share: u16) -> usize
+pub fn put_share(out: &mut [u8], at: usize, round: u16, share: u16) -> usize
     requires { ⌜ at + 69 ≤ length (now out) ⌝ }
-    ensures end { λ r. ⌜ r ≡ at + 36 * editionFor round share ⌝ }
-    ensures put { λ _. ⌜ Put (now (out .entry)) at (shareText round share) (36 * editionFor round share) (now (out .exit)) ⌝ }
+    ensures { λ r. ⌜ (r ≡ at + 36 * editionFor round share) × Put (now (out .entry)) at (shareText round share) (36 * editionFor round share) (now (out .exit)) ⌝ }
 {
-    if sheet::is_whole(round, share) {
+    if (round == 1) & (share == 1) {
         return at;
     }
     put(out, at, b"#    round  share\n");
@@ -99,7 +93,7 @@ fn put_share(out: &mut [u8], at: usize, round: u16, share: u16) -> usize
 }
 
 // A task's numbers in the order of their columns.
-fn task_numbers(task: Record) -> [u16; 6]
+pub fn task_numbers(task: Record) -> [u16; 6]
     ensures { λ r. ⌜ r ≡ taskNumbers task ⌝ }
 {
     [
@@ -114,8 +108,7 @@ fn task_numbers(task: Record) -> [u16; 6]
 
 // Puts the lines of the tasks.
 fn put_tasks(out: &mut [u8], at: usize, records: [Record; 8], count: u8)
-    requires few { ⌜ count ≤ 8 ⌝ }
-    requires room { ⌜ at + 51 * count ≤ length (now out) ⌝ }
+    requires { ⌜ (count ≤ 8) × (at + 51 * count ≤ length (now out)) ⌝ }
     ensures { λ _. ⌜ Put (now (out .entry)) at (joinedBelow (taskText records) count) (51 * count) (now (out .exit)) ⌝ }
 {
     let mut end = at;
@@ -128,9 +121,7 @@ fn put_tasks(out: &mut [u8], at: usize, records: [Record; 8], count: u8)
 
 // Puts a table's text at the start of an output that is long enough.
 pub fn put_table(out: &mut [u8], table: Table)
-    requires some { ⌜ 1 ≤ table .count ⌝ }
-    requires few { ⌜ table .count ≤ 8 ⌝ }
-    requires room { ⌜ textSize table ≤ length (now out) ⌝ }
+    requires { ⌜ (1 ≤ table .count) × (table .count ≤ 8) × (textSize table ≤ length (now out)) ⌝ }
     ensures { λ _. ⌜ Put (now (out .entry)) 0 (shownText table) (textSize table) (now (out .exit)) ⌝ }
 {
     let records = table.records;

@@ -5,8 +5,10 @@ use assured::Times;
 use console::output;
 use console::passing;
 use console::refusals;
-use console::taking;
+use lines::Task;
 use sheet::Table;
+use sources::taking;
+use sources::titles;
 use streams::endings;
 use streams::words;
 use streams::words::Asked;
@@ -22,14 +24,15 @@ fn untimed(given: assured::Entry) -> Entry {
 }
 
 // Prints a line for each of so many tasks.
-fn print_times(count: u8, times: Times) -> bool {
+fn print_times(count: u8, times: Times, tasks: [Task; 8]) -> bool {
     let entries = times.entries;
     let mut buffer = io::buffer();
     let mut end: usize = 0;
     let mut place: u8 = 0;
     while place < 8 && place < count {
         let entry = entries[place as usize];
-        end = report::put_line(report::task_line(place, untimed(entry)), &mut buffer, end);
+        let line = titles::titled(report::task_line(place, untimed(entry)), tasks, place);
+        end = report::put_line(line, &mut buffer, end);
         place += 1;
     }
     output::write(&buffer, end)
@@ -43,12 +46,12 @@ fn print_choices(table: Table) -> bool {
 }
 
 // Prints the answer to a good sheet.
-fn answer(table: Table, is_explained: bool) -> u8 {
+fn answer(table: Table, tasks: [Task; 8], is_explained: bool) -> u8 {
     let times = assured::assured_times(table);
     if times.refusal != 0 {
         return refusals::print(times.refusal, is_explained);
     }
-    if print_times(table.count, times) {
+    if print_times(table.count, times, tasks) {
         if print_choices(table) {
             return endings::of(times.assured);
         }
@@ -61,10 +64,11 @@ pub fn run(asked: Asked) -> u8 {
     if asked.count != 1 {
         return words::trouble(b"assured takes one word, SHEET");
     }
-    let taken = taking::table(words::at(asked, 0), asked.is_explained);
+    let taken = taking::table(asked, words::at(asked, 0));
     if !taken.is_good {
-        return taken.ending;
+        return endings::TROUBLE;
     }
     let table = taken.table;
-    answer(table, asked.is_explained)
+    let tasks = taken.tasks;
+    answer(table, tasks, asked.is_explained)
 }

@@ -2,10 +2,10 @@
 use analysis::Interval;
 use console::output;
 use console::refusals;
-use console::taking;
 use report::Name;
 use report::Saying;
 use sheet::Table;
+use sources::taking;
 use streams::endings;
 use streams::words;
 use streams::words::Asked;
@@ -27,9 +27,9 @@ pub fn run(asked: Asked) -> u8 {
     if asked.count != 1 {
         return words::trouble(b"interval takes one word, SHEET");
     }
-    let taken = taking::table(words::at(asked, 0), asked.is_explained);
+    let taken = taking::table(asked, words::at(asked, 0));
     if !taken.is_good {
-        return taken.ending;
+        return endings::TROUBLE;
     }
     let table = taken.table;
     answer(table, asked.is_explained)

@@ -3,9 +3,12 @@ use console::output;
 use console::refusals;
 use cores::Fit;
 use cores::Placing;
-use intake::sheets;
 use intake::sheets::Given;
+use lines::Task;
 use report::Name;
+use sources::inputs;
+use sources::inputs::Source;
+use sources::titles;
 use streams::endings;
 use streams::numbers;
 use streams::numbers::Parsed;
@@ -14,12 +17,13 @@ use streams::words;
 use streams::words::Asked;
 
 // Prints the core of each record that has one.
-fn print(cores: [u8; 8]) -> bool {
+fn print(cores: [u8; 8], tasks: [Task; 8]) -> bool {
     let mut buffer = io::buffer();
     let mut end: usize = 0;
     let mut place: u8 = 0;
     while place < 8 && cores[place as usize] != 0 {
         let line = report::core_line(place, cores[place as usize]);
+        let line = titles::titled(line, tasks, place);
         end = report::put_line(line, &mut buffer, end);
         place += 1;
     }
@@ -34,19 +38,21 @@ fn placing(given: Given, number: u8) -> Placing {
 }
 
 // Prints the answer to a sheet and a number of cores.
-fn answer(given: Given, number: u8, is_explained: bool) -> u8 {
+fn answer(source: Source, number: u8, is_explained: bool) -> u8 {
+    let given = source.given;
+    let tasks = source.tasks;
     let placing = placing(given, number);
     let fit = placing.fit;
     match fit {
         Fit::Refused(refusal) => refusals::print_of(given, refusal, is_explained),
         Fit::Everyone => {
             let cores = placing.cores;
-            endings::ended(print(cores), endings::HOLDS)
+            endings::ended(print(cores, tasks), endings::HOLDS)
         }
-        Fit::FitsNone(place) => output::line(
-            report::named_line(Name::FitsNone, place as u64),
-            endings::FAILS,
-        ),
+        Fit::FitsNone(place) => {
+            let line = report::named_line(Name::FitsNone, place as u64);
+            output::line(titles::titled_from_1(line, tasks, place), endings::FAILS)
+        }
     }
 }
 
@@ -57,11 +63,11 @@ pub fn run(asked: Asked) -> u8 {
     }
     match numbers::word(words::at(asked, 0)) {
         Parsed::Number(number) => {
-            let given = sheets::read(words::at(asked, 1));
-            if !given.is_read {
+            let source = inputs::sheet_at(asked, words::at(asked, 1));
+            if !source.is_taken {
                 return endings::TROUBLE;
             }
-            answer(given, number, asked.is_explained)
+            answer(source, number, asked.is_explained)
         }
         Parsed::Nothing => words::trouble(b"the number of cores, the first word, is not a number"),
     }

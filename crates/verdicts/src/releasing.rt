@@ -5,6 +5,7 @@ use intake::sheets;
 use intake::sheets::Given;
 use release::Decision;
 use report::Saying;
+use sources::inputs;
 use streams::endings;
 use streams::input;
 use streams::numbers;
@@ -93,14 +94,16 @@ fn answer(in_use: Given, candidate: Given, protected: u8, is_explained: bool) ->
 
 // Decides between the sheets that the first two words name.
 fn between(asked: Asked, protected: u8) -> u8 {
-    let in_use = sheets::read(words::at(asked, 0));
-    if !in_use.is_read {
+    let first = inputs::sheet_at(asked, words::at(asked, 0));
+    if !first.is_taken {
         return endings::TROUBLE;
     }
-    let candidate = sheets::read(words::at(asked, 1));
-    if !candidate.is_read {
+    let second = inputs::sheet_at(asked, words::at(asked, 1));
+    if !second.is_taken {
         return endings::TROUBLE;
     }
+    let in_use = first.given;
+    let candidate = second.given;
     answer(in_use, candidate, protected, asked.is_explained)
 }
 

@@ -1,47 +1,21 @@
--- `report::change_line` meets its contract: one text after the other. Assumes nothing.
-use Rattle.report.specs.Words.{newline}
+-- `report::change_line` meets its contract: the line of a change with its word. Assumes nothing.
 use Rattle.report.specs.Texts.{changeText}
-use Rattle.report.proofs.Putting.{line-more, line-both}
 use borrow.Author.Needs.{needs}
 use Rattle.report.proofs.change_line.Statement.{statement}
 use Rattle.report.proofs.change_line.Tie as tie
 
-changed-requires : tie.Need-changed-requires
-changed-requires c κs = search needs
+slice-aggregate-told : tie.Need-slice-aggregate-told
+slice-aggregate-told c = search needs
 
-slice-aggregate-with-labelled : tie.Need-slice-aggregate-with-labelled
-slice-aggregate-with-labelled c = search needs
+cast-told : tie.Need-cast-told
+cast-told c = search needs
 
-with-labelled-requires : tie.Need-with-labelled-requires
-with-labelled-requires c κs = search needs
-
-slice-aggregate-with-labelled-2 : tie.Need-slice-aggregate-with-labelled-2
-slice-aggregate-with-labelled-2 c = search needs
-
-with-labelled-requires-2 : tie.Need-with-labelled-requires-2
-with-labelled-requires-2 c κs = search needs
-
-slice-aggregate-with-word : tie.Need-slice-aggregate-with-word
-slice-aggregate-with-word c = search needs
-
-with-word-requires : tie.Need-with-word-requires
-with-word-requires c κs = search needs
+told-requires : tie.Need-told-requires
+told-requires c κs = search needs
 
 returns : tie.Need-returns
 unfolding changeText
-returns c =
-    let old = line-both _ _ _ (c .before .before .before .before .before .before .changed .ensures .0) (c .before .before .before .before .with-labelled .ensures .0) in
-    line-more _ newline (line-both _ _ _ old (c .before .before .with-labelled2 .ensures .0)) (c .with-word .ensures)
+returns c = c .told .ensures
 
 pub change-line-spec : {M : Type 1} → statement M
-change-line-spec =
-    tie.close
-    (tie.spec
-    changed-requires
-    slice-aggregate-with-labelled
-    with-labelled-requires
-    slice-aggregate-with-labelled-2
-    with-labelled-requires-2
-    slice-aggregate-with-word
-    with-word-requires
-    returns)
+change-line-spec = tie.close (tie.spec slice-aggregate-told cast-told told-requires returns)

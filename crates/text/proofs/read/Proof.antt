@@ -1,7 +1,7 @@
 -- `text::read` meets its contract. Assumes nothing.
 use mathlib.Core.Path.{ap, _∙_}
 use Rattle.text.specs.declared.Scan.{Scan}
-use Rattle.text.specs.Steps.{scanned}
+use Rattle.text.specs.Texts.{scanned}
 use Rattle.text.specs.Answers.{understood, readAnswer}
 use borrow.Author.Needs.{needs}
 use Rattle.text.proofs.read.Statement.{statement}
@@ -18,9 +18,7 @@ finish-requires c κs = search needs
 
 returns : tie.Need-returns
 unfolding readAnswer
-returns c =
-    let text = c .before .before .before .before .args .text .now in
-    c .finish .ensures ∙ ap understood (c .before .take .ensures ∙ ap (λ (s : Scan). scanned s text) (c .before .before .start .ensures))
+returns c = c .finish .ensures ∙ ap understood (c .before .take .ensures ∙ ap (λ (s : Scan). scanned s (c .before .before .before .before .args .text .now)) (c .before .before .start .ensures))
 
 pub read-spec : {M : Type 1} → statement M
 read-spec = tie.close (tie.spec start-requires take-requires finish-requires returns)

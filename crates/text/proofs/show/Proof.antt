@@ -35,7 +35,7 @@ returns-2 c = show-short _ _ (good (c .before .before)) (subst (λ (n : ℕ). le
 put-table-requires : tie.Need-put-table-requires
 put-table-requires c κs =
     let known = good-table _ (good (c .before .before .before)) in
-    (known .count .0, (known .count .1, subst (λ (n : ℕ). n ≤ length (c .before .before .before .before .before .before .args .out .now)) (sized (c .before .before)) (c .before .if2 .left)))
+    (known .count .0, known .count .1, subst (λ (n : ℕ). n ≤ length (c .before .before .before .before .before .before .args .out .now)) (sized (c .before .before)) (c .before .if2 .left))
 
 same-length : tie.Need-same-length
 same-length c = search needs

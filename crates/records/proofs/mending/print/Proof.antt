@@ -7,10 +7,10 @@ use Rattle.records.proofs.mending.print.Statement.{statement}
 use Rattle.records.proofs.mending.print.Tie as tie
 
 abbrev Inv-loop : tie.InvT-loop
-Inv-loop descriptor changes list buffer₀ end₀ number₀ buffer end number = 4096 ≡ length buffer
+Inv-loop descriptor changes tasks list buffer₀ end₀ number₀ buffer end number = 4096 ≡ length buffer
 
 abbrev μ-loop : tie.MeasureT-loop
-μ-loop descriptor changes list buffer₀ end₀ number₀ buffer end number = 17 - number
+μ-loop descriptor changes tasks list buffer₀ end₀ number₀ buffer end number = 17 - number
 
 buffer-requires : tie.Need-buffer-requires Inv-loop μ-loop
 buffer-requires c κs = search needs

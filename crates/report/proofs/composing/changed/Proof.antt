@@ -19,9 +19,6 @@ begun-requires c κs = search needs
 enum-told-2 : tie.Need-enum-told-2
 enum-told-2 c = search needs
 
-slice-aggregate-labelled : tie.Need-slice-aggregate-labelled
-slice-aggregate-labelled c = search needs
-
 labelled-requires : tie.Need-labelled-requires
 labelled-requires c κs = search needs
 
@@ -33,9 +30,6 @@ with-word-requires c κs = search needs
 
 enum-told-3 : tie.Need-enum-told-3
 enum-told-3 c = search needs
-
-slice-aggregate-labelled-2 : tie.Need-slice-aggregate-labelled-2
-slice-aggregate-labelled-2 c = search needs
 
 labelled-requires-2 : tie.Need-labelled-requires-2
 labelled-requires-2 c κs = search needs
@@ -53,13 +47,13 @@ returns c = (rw (c .before .before .enum-told .given .1) (c .begun .ensures), om
 returns-2 : tie.Need-returns-2
 unfolding changedText
 returns-2 c =
-    let told = c .before .before .before .before .enum-told2 .given .1 in
+    let told = c .before .before .before .enum-told2 .given .1 in
     (rw told (line-more _ deadlineWord (c .before .before .labelled .ensures .0) (c .with-word .ensures)), omega (arith, c .before .before .labelled .ensures .1, len-put _ deadlineWord (c .with-word .ensures)))
 
 returns-3 : tie.Need-returns-3
 unfolding changedText
 returns-3 c =
-    let told = c .before .before .before .before .enum-told3 .given .1 in
+    let told = c .before .before .before .enum-told3 .given .1 in
     (rw told (line-more _ faultPriorityWord (c .before .before .labelled2 .ensures .0) (c .with-word2 .ensures)), omega (arith, c .before .before .labelled2 .ensures .1, len-put _ faultPriorityWord (c .with-word2 .ensures)))
 
 pub changed-spec : {M : Type 1} → statement M
@@ -70,12 +64,10 @@ changed-spec =
     slice-aggregate-begun
     begun-requires
     enum-told-2
-    slice-aggregate-labelled
     labelled-requires
     slice-aggregate-with-word
     with-word-requires
     enum-told-3
-    slice-aggregate-labelled-2
     labelled-requires-2
     slice-aggregate-with-word-2
     with-word-requires-2

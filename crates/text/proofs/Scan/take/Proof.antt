@@ -3,8 +3,8 @@ use Prim.Native.Nat.{_+_, _-_, _≤_}
 use mathlib.Core.Path.{_≡_, refl, sym, ap, _∙_}
 use native.Mathlib.Omega.{arith}
 use lib.ListN.{length, drop, drop-of-length-le}
-use Rattle.text.specs.Steps.{scanned}
-use Rattle.text.proofs.Stepped.{scanned-more}
+use Rattle.text.specs.Texts.{scanned}
+use Rattle.text.proofs.Turned.{scanned-more}
 use borrow.Author.Needs.{needs}
 use Rattle.text.proofs.Scan.take.Statement.{statement}
 use Rattle.text.proofs.Scan.take.Tie as tie
@@ -31,17 +31,11 @@ loop-less : tie.Need-loop-less Inv-loop μ-loop
 loop-less c = search needs
 
 loop-again : tie.Need-loop-again Inv-loop μ-loop
-loop-again c =
-    let at = c .before .before .before .loop in
-    let part = c .before .before .before .before .before .args .part .now in
-    (search needs, ap (λ s. scanned s (drop (at .at + 1) part)) (c .step .ensures) ∙ sym (scanned-more (at .scan) part (at .at) (search needs)) ∙ at .inv .1)
+loop-again c = (search needs, ap (λ s. scanned s (drop (c .before .before .before .loop .at + 1) (c .before .before .before .before .before .args .part .now))) (c .step .ensures) ∙ sym (scanned-more (c .before .before .before .loop .scan) (c .before .before .before .before .before .args .part .now) (c .before .before .before .loop .at) (search needs)) ∙ c .before .before .before .loop .inv .1)
 
 returns : tie.Need-returns Inv-loop μ-loop
 unfolding scanned
-returns c =
-    let at = c .before .loop in
-    let part = c .before .before .before .args .part .now in
-    sym (ap (scanned (at .scan)) (drop-of-length-le part {i = at .at} (omega arith))) ∙ at .inv .1
+returns c = sym (ap (scanned (c .before .loop .scan)) (drop-of-length-le (c .before .before .before .args .part .now) {i = c .before .loop .at} (omega arith))) ∙ c .before .loop .inv .1
 
 pub take-spec : {M : Type 1} → statement M
 take-spec =

@@ -1,19 +1,16 @@
 -- `text::page::put_share` meets its contract: the names and one line. Assumes nothing.
-use mathlib.Core.Path.{refl, sym, _∙_}
+use mathlib.Core.Path.{refl}
 use native.Mathlib.Omega.{arith}
-use Rattle.sheet.specs.Layout.{editionFor}
+use Rattle.sheet.specs.Layout.{editionFor, isWhole}
 use Rattle.text.specs.Shown.{columnAt, shareText}
 use Rattle.text.proofs.Laid.{put-none, put-more, put-as, put-length}
 use borrow.Author.Needs.{needs}
 use Rattle.text.proofs.page.put_share.Statement.{statement}
 use Rattle.text.proofs.page.put_share.Tie as tie
 
-is-whole-requires : tie.Need-is-whole-requires
-is-whole-requires c κs = search needs
-
 returns : tie.Need-returns
-unfolding shareText editionFor
-returns c = rw (sym (c .before .is-whole .ensures) ∙ c .if1 .taken) (omega arith, put-none _ _)
+unfolding shareText editionFor isWhole
+returns c = rw (c .if1 .taken) (omega arith, put-none _ _)
 
 slice-aggregate-put : tie.Need-slice-aggregate-put
 slice-aggregate-put c = search needs
@@ -33,18 +30,16 @@ same-length : tie.Need-same-length
 same-length c = search needs
 
 returns-2 : tie.Need-returns-2
-unfolding shareText editionFor columnAt
+unfolding shareText editionFor isWhole columnAt
 returns-2 c =
     let put = c .before .before .before .before .before .before .put .ensures in
     let row = c .before .before .put-row .ensures in
-    let left = c .before .before .before .before .before .before .before .before .before in
-    rw (sym (left .before .is-whole .ensures) ∙ left .if1 .left) (omega (arith, row .0), put-as refl refl (put-more put refl (row .1)))
+    rw (c .before .before .before .before .before .before .before .before .before .if1 .left) (omega (arith, row .0), put-as refl refl (put-more put refl (row .1)))
 
 pub put-share-spec : {M : Type 1} → statement M
 put-share-spec =
     tie.close
     (tie.spec
-    is-whole-requires
     returns
     slice-aggregate-put
     put-requires

@@ -66,7 +66,7 @@ put-tasks-requires : tie.Need-put-tasks-requires
 unfolding textSize
 put-tasks-requires c κs =
     let named = named (c .before .before .before) in
-    (c .before .before .before .before .before .before .before .before .before .before .before .before .before .before .before .before .before .before .before .before .before .pre .1 .0, omega (arith, put-length named, ends (c .before .before .before .before .before .before .before .before), c .before .before .before .before .before .before .before .before .before .before .before .before .before .before .before .before .before .before .before .before .before .pre .1 .1))
+    (c .before .before .before .before .before .before .before .before .before .before .before .before .before .before .before .before .before .before .before .before .before .pre .1, omega (arith, put-length named, ends (c .before .before .before .before .before .before .before .before), c .before .before .before .before .before .before .before .before .before .before .before .before .before .before .before .before .before .before .before .before .before .pre .2))
 
 same-length : tie.Need-same-length
 same-length c = put-length (c .before .before .put-tasks .ensures) ∙ put-length (named (c .before .before .before .before .before .before))

@@ -1,7 +1,6 @@
 -- `text::page::size` meets its contract. Assumes nothing.
-use mathlib.Core.Path.{sym, _∙_}
 use native.Mathlib.Omega.{arith}
-use Rattle.sheet.specs.Layout.{editionFor}
+use Rattle.sheet.specs.Layout.{editionFor, isWhole}
 use borrow.Author.Needs.{needs}
 use Rattle.text.proofs.page.size.Statement.{statement}
 use Rattle.text.proofs.page.size.Tie as tie
@@ -12,19 +11,16 @@ mul-tasks c = search needs
 add-tasks : tie.Need-add-tasks
 add-tasks c = search needs
 
-is-whole-requires : tie.Need-is-whole-requires
-is-whole-requires c κs = search needs
-
 add-result : tie.Need-add-result
 add-result c = search needs
 
 returns : tie.Need-returns
-unfolding editionFor
-returns c = rw (sym (c .before .is-whole .ensures) ∙ c .if1 .taken)
+unfolding editionFor isWhole
+returns c = rw (c .if1 .taken)
 
 returns-2 : tie.Need-returns-2
-unfolding editionFor
-returns-2 c = rw (sym (c .before .is-whole .ensures) ∙ c .if1 .left) (omega arith)
+unfolding editionFor isWhole
+returns-2 c = rw (c .if1 .left) (omega arith)
 
 pub size-spec : {M : Type 1} → statement M
-size-spec = tie.close (tie.spec mul-tasks add-tasks is-whole-requires add-result returns returns-2)
+size-spec = tie.close (tie.spec mul-tasks add-tasks add-result returns returns-2)

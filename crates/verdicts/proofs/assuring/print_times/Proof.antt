@@ -7,10 +7,10 @@ use Rattle.verdicts.proofs.assuring.print_times.Statement.{statement}
 use Rattle.verdicts.proofs.assuring.print_times.Tie as tie
 
 abbrev Inv-loop : tie.InvT-loop
-Inv-loop count entries buffer₀ end₀ place₀ buffer end place = 4096 ≡ length buffer
+Inv-loop count tasks entries buffer₀ end₀ place₀ buffer end place = 4096 ≡ length buffer
 
 abbrev μ-loop : tie.MeasureT-loop
-μ-loop count entries buffer₀ end₀ place₀ buffer end place = 8 - place
+μ-loop count tasks entries buffer₀ end₀ place₀ buffer end place = 8 - place
 
 buffer-requires : tie.Need-buffer-requires Inv-loop μ-loop
 buffer-requires c κs = search needs
@@ -32,6 +32,9 @@ untimed-requires c κs = search needs
 
 task-line-requires : tie.Need-task-line-requires Inv-loop μ-loop
 task-line-requires c κs = search needs
+
+titled-requires : tie.Need-titled-requires Inv-loop μ-loop
+titled-requires c κs = search needs
 
 slice-aggregate-put-line : tie.Need-slice-aggregate-put-line Inv-loop μ-loop
 slice-aggregate-put-line c = search needs
@@ -70,6 +73,7 @@ print-times-spec =
     array-copy-out-entry
     untimed-requires
     task-line-requires
+    titled-requires
     slice-aggregate-put-line
     put-line-requires
     add-place

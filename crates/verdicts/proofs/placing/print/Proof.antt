@@ -7,10 +7,10 @@ use Rattle.verdicts.proofs.placing.print.Statement.{statement}
 use Rattle.verdicts.proofs.placing.print.Tie as tie
 
 abbrev Inv-loop : tie.InvT-loop
-Inv-loop cores buffer₀ end₀ place₀ buffer end place = 4096 ≡ length buffer
+Inv-loop cores tasks buffer₀ end₀ place₀ buffer end place = 4096 ≡ length buffer
 
 abbrev μ-loop : tie.MeasureT-loop
-μ-loop cores buffer₀ end₀ place₀ buffer end place = 8 - place
+μ-loop cores tasks buffer₀ end₀ place₀ buffer end place = 8 - place
 
 buffer-requires : tie.Need-buffer-requires Inv-loop μ-loop
 buffer-requires c κs = search needs
@@ -32,6 +32,9 @@ array-read-core-line c = search needs
 
 core-line-requires : tie.Need-core-line-requires Inv-loop μ-loop
 core-line-requires c κs = search needs
+
+titled-requires : tie.Need-titled-requires Inv-loop μ-loop
+titled-requires c κs = search needs
 
 slice-aggregate-put-line : tie.Need-slice-aggregate-put-line Inv-loop μ-loop
 slice-aggregate-put-line c = search needs
@@ -70,6 +73,7 @@ print-spec =
     cast-core-line
     array-read-core-line
     core-line-requires
+    titled-requires
     slice-aggregate-put-line
     put-line-requires
     add-place

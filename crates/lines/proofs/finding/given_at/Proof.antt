@@ -1,0 +1,19 @@
+-- `lines::finding::given_at` meets its contract. Assumes nothing.
+use mathlib.Core.Path.{sym}
+use lib.ListN.{List·getD-eq-default}
+use mathlib.Core.Bool.{false}
+use borrow.Author.Needs.{needs}
+use Rattle.lines.proofs.finding.given_at.Statement.{statement}
+use Rattle.lines.proofs.finding.given_at.Tie as tie
+
+array-read-result : tie.Need-array-read-result
+array-read-result c = search needs
+
+returns : tie.Need-returns
+returns c = search needs
+
+returns-2 : tie.Need-returns-2
+returns-2 c = sym (List·getD-eq-default (c .before .args .t1) false (search needs))
+
+pub given-at-spec : {M : Type 1} → statement M
+given-at-spec = tie.close (tie.spec array-read-result returns returns-2)

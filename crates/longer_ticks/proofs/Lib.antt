@@ -1,0 +1,3 @@
+-- The theorems, and rows by computation.
+pub mod Demands
+pub mod Rows
