@@ -70,10 +70,8 @@ struct table {
 
 /* The library's calls by each rule. */
 static const struct side library_sides[RULES] = {
-    {fq_judge, fq_rewrite, fq_response, fq_verdict, fq_least_interval, fq_next, fq_list, fq_replay, fq_choice_times, fq_margin,
-     fq_factor, fq_release, 0},
-    {fq_judge, fq_rewrite, fq_assured_response, fq_assured_verdict, fq_assured_least_interval, fq_assured_next, fq_assured_list,
-     fq_replay, fq_choice_times, fq_margin, fq_factor, fq_assured_release, 1},
+    {fq_judge, fq_rewrite, fq_response, fq_verdict, fq_least_interval, fq_next, fq_list, fq_replay},
+    {fq_judge, fq_rewrite, fq_assured_response, fq_verdict, fq_least_interval, fq_assured_next, fq_assured_list, fq_replay},
 };
 
 /* What the columns of the C sides are headed. */
@@ -137,42 +135,6 @@ static int64_t use_least_interval(const struct side *side, const struct packed *
     return side->least_interval(sheet->bytes, sheet->len);
 }
 
-/* Asks for every time under the first choice of all. */
-static int64_t use_choice_times(const struct side *side, const struct packed *sheet, uint8_t *out)
-{
-    int32_t times[FQ_TIMES_NUMBERS];
-    uint32_t first = 0x11111111u << (32 - 4 * sheet->count);
-    int64_t answer = side->choice_times(sheet->bytes, sheet->len, first, side->assured, times, FQ_TIMES_NUMBERS);
-    memcpy(out, times, FQ_TIME_NUMBERS * sheet->count * sizeof times[0]);
-    return answer;
-}
-
-/* Asks for each margin of each record. */
-static int64_t use_margins(const struct side *side, const struct packed *sheet, uint8_t *out)
-{
-    for (size_t place = 0; place < sheet->count; place++) {
-        for (uint32_t field = FQ_MARGIN_COST; field <= FQ_MARGIN_PERIOD; field++, out += sizeof(int64_t)) {
-            int64_t answer = side->margin(sheet->bytes, sheet->len, place, field, side->assured);
-            memcpy(out, &answer, sizeof answer);
-        }
-    }
-    return 0;
-}
-
-/* Asks for the factor. */
-static int64_t use_factor(const struct side *side, const struct packed *sheet, uint8_t *out)
-{
-    (void)out;
-    return side->factor(sheet->bytes, sheet->len, side->assured);
-}
-
-/* Asks whether the same sheet may be loaded in the place of itself, every task protected. */
-static int64_t use_release(const struct side *side, const struct packed *sheet, uint8_t *out)
-{
-    (void)out;
-    return side->release(sheet->bytes, sheet->len, sheet->bytes, sheet->len, (uint8_t)((1u << sheet->count) - 1));
-}
-
 /* Asks for the first passing choice. */
 static int64_t use_next(const struct side *side, const struct packed *sheet, uint8_t *out)
 {
@@ -228,7 +190,6 @@ static int64_t use_refused(const struct side *side, const struct packed *sheet, 
     size_t len = sheet->len;
     size_t passing = (size_t)side->list(sheet->bytes, len, out, FQ_LIST_BYTES);
     uint64_t counts[FQ_COUNTS];
-    int32_t time;
     memset(out, UNTOUCHED, FQ_LIST_BYTES);
     int64_t answers[] = {
         side->judge(sheet->bytes, 2),
@@ -236,12 +197,6 @@ static int64_t use_refused(const struct side *side, const struct packed *sheet, 
         side->least_interval(sheet->bytes + 1, len - 1),
         side->response(sheet->bytes, len, sheet->count),
         side->next(sheet->bytes, len, 1),
-        side->choice_times(sheet->bytes, len, 1, side->assured, &time, 1),
-        side->choice_times(sheet->bytes, len, 0, side->assured, &time, 1),
-        side->margin(sheet->bytes, len, sheet->count, FQ_MARGIN_COST, side->assured),
-        side->margin(sheet->bytes, len, 0, FQ_MARGIN_PERIOD + 1, side->assured),
-        side->factor(sheet->bytes, len - 1, side->assured),
-        side->release(sheet->bytes, len, sheet->bytes, len - 1, 0),
         side->rewrite(sheet->bytes, len, out, len - 1),
         side->list(sheet->bytes, len, out, CHOICE_BYTES * passing - 1),
         side->replay(sheet->bytes, len, busy_log, 3, counts, FQ_COUNTS),
@@ -257,10 +212,6 @@ static struct row main_rows[] = {
     {.name = "rewrite a sheet of 8", .use = use_rewrite, .sheet = &everyday},
     {.name = "all 8 responses", .use = use_responses, .sheet = &everyday},
     {.name = "verdict on 8 tasks, passing", .use = use_verdict, .sheet = &everyday},
-    {.name = "all 8 times under a choice", .use = use_choice_times, .sheet = &everyday},
-    {.name = "all 32 margins of 8 tasks", .use = use_margins, .sheet = &everyday},
-    {.name = "factor of 8 tasks", .use = use_factor, .sheet = &everyday},
-    {.name = "release of 8 tasks, all protected", .use = use_release, .sheet = &everyday},
     {.name = "list of 8 tasks, all 40320 pass", .use = use_list, .sheet = &everyday},
     {.name = "list of 8 tasks, 20160 pass", .use = use_list, .sheet = &everyday, .place = 3, .deadline = 170},
     {.name = "list of 8 tasks, none: second record late", .use = use_list, .sheet = &everyday, .place = 1,
@@ -319,12 +270,6 @@ static struct row slow_rows[] = {
 static struct row assured_rows[] = {
     {.name = "one assured time, of the lowest of 8", .use = use_response, .sheet = &everyday},
     {.name = "all 8 assured times", .use = use_responses, .sheet = &everyday},
-    {.name = "verdict on 8 tasks, assured", .use = use_verdict, .sheet = &everyday},
-    {.name = "all 8 assured times under a choice", .use = use_choice_times, .sheet = &everyday},
-    {.name = "all 32 margins of 8 tasks", .use = use_margins, .sheet = &everyday},
-    {.name = "factor of 8 tasks", .use = use_factor, .sheet = &everyday},
-    {.name = "least interval of 8 tasks", .use = use_least_interval, .sheet = &everyday},
-    {.name = "release of 8 tasks, all protected", .use = use_release, .sheet = &everyday},
     {.name = "list of 8 tasks, all 40320 assured", .use = use_list, .sheet = &everyday},
     {.name = "list of 8 tasks, 21504 assured", .use = use_list, .sheet = &everyday, .place = 3, .deadline = 169},
     {.name = "list of 8 tasks, none: second record has no time", .use = use_list, .sheet = &everyday, .place = 1,

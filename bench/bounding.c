@@ -147,68 +147,44 @@ int64_t bounding_assured_response(const uint8_t *sheet, size_t len, size_t place
     return time_at(read_whole, started_assured_time, sheet, len, place);
 }
 
-/* 1 where no task is late by a rule, 0 where one is, or minus the refusal; like the library's, out of all times. */
-static int64_t verdict(reading *read, timing *time, const uint8_t *sheet, size_t len)
+/* 1 where the sheet passes, 0 where it does not, or minus the refusal; like the library's, out of all response times. */
+int64_t bounding_verdict(const uint8_t *sheet, size_t len)
 {
     struct table table;
-    uint8_t refusal = read(sheet, len, &table);
+    uint8_t refusal = read_sheet(sheet, len, &table);
     bool is_late = false;
     if (refusal != 0) {
         return -refusal;
     }
     for (unsigned own = 1; own <= table.count; own++) {
-        is_late = (time(&table, own, table.records[own].deadline) == 0) | is_late;
+        is_late = (started_response(&table, own) == 0) | is_late;
     }
     return !is_late;
 }
 
-/* Whether the sheet passes. */
-int64_t bounding_verdict(const uint8_t *sheet, size_t len)
-{
-    return verdict(read_sheet, started_response, sheet, len);
-}
-
-/* Whether it is assured. */
-int64_t bounding_assured_verdict(const uint8_t *sheet, size_t len)
-{
-    return verdict(read_whole, started_assured_time, sheet, len);
-}
-
-/* The least interval at which a sheet meets a rule, 0 where there is none, or minus the refusal: the longest is tried first, then what lies between is halved. */
-static int64_t least_interval(reading *read, meeting *meets, const uint8_t *sheet, size_t len)
+/* The least interval at which the sheet passes, 0 where there is none, or minus the refusal: the longest is tried first, then what lies between is halved. */
+int64_t bounding_least_interval(const uint8_t *sheet, size_t len)
 {
     struct table table;
-    uint8_t refusal = read(sheet, len, &table);
+    uint8_t refusal = read_sheet(sheet, len, &table);
     uint32_t failing = 1;
-    uint32_t met = HIGHEST;
+    uint32_t passing = HIGHEST;
     if (refusal != 0) {
         return -refusal;
     }
     table.interval = HIGHEST;
-    if (!meets(&table)) {
+    if (!passes_from_lowest(&table)) {
         return 0;
     }
-    while (failing + 1 < met) {
-        table.interval = (failing + met) / 2;
-        if (meets(&table)) {
-            met = table.interval;
+    while (failing + 1 < passing) {
+        table.interval = (failing + passing) / 2;
+        if (passes_from_lowest(&table)) {
+            passing = table.interval;
         } else {
             failing = table.interval;
         }
     }
-    return met;
-}
-
-/* The least at which it passes. */
-int64_t bounding_least_interval(const uint8_t *sheet, size_t len)
-{
-    return least_interval(read_sheet, passes_from_lowest, sheet, len);
-}
-
-/* The least at which it is assured. */
-int64_t bounding_assured_least_interval(const uint8_t *sheet, size_t len)
-{
-    return least_interval(read_whole, is_assured_from_lowest, sheet, len);
+    return passing;
 }
 
 /* The next choice that meets a rule after any allowed one, 0 at the end, or minus the refusal; a few are tried before bounds are found. */

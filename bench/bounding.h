@@ -12,8 +12,6 @@ int64_t bounding_response(const uint8_t *sheet, size_t len, size_t place);
 int64_t bounding_assured_response(const uint8_t *sheet, size_t len, size_t place);
 int64_t bounding_verdict(const uint8_t *sheet, size_t len);
 int64_t bounding_least_interval(const uint8_t *sheet, size_t len);
-int64_t bounding_assured_verdict(const uint8_t *sheet, size_t len);
-int64_t bounding_assured_least_interval(const uint8_t *sheet, size_t len);
 int64_t bounding_next(const uint8_t *sheet, size_t len, uint32_t after);
 int64_t bounding_list(const uint8_t *sheet, size_t len, uint8_t *out, size_t out_len);
 int64_t bounding_assured_next(const uint8_t *sheet, size_t len, uint32_t after);

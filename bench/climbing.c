@@ -66,52 +66,28 @@ int64_t climbing_assured_response(const uint8_t *sheet, size_t len, size_t place
     return time_at(read_whole, assured_time, sheet, len, place);
 }
 
-/* 1 where the sheet meets a rule, 0 where it does not, or minus the refusal. */
-static int64_t verdict(const struct rule *rule, const uint8_t *sheet, size_t len)
-{
-    struct table table;
-    uint8_t refusal = rule->read(sheet, len, &table);
-    return refusal != 0 ? -refusal : rule->meets(&table);
-}
-
-/* Whether it passes. */
+/* 1 where the sheet passes, 0 where it does not, or minus the refusal. */
 int64_t climbing_verdict(const uint8_t *sheet, size_t len)
 {
-    return verdict(&passing, sheet, len);
+    struct table table;
+    uint8_t refusal = read_sheet(sheet, len, &table);
+    return refusal != 0 ? -refusal : passes(&table);
 }
 
-/* Whether it is assured. */
-int64_t climbing_assured_verdict(const uint8_t *sheet, size_t len)
-{
-    return verdict(&assured, sheet, len);
-}
-
-/* The least interval at which the sheet meets a rule, 0 where there is none, or minus the refusal: every one is tried from 1 up. */
-static int64_t least_interval(const struct rule *rule, const uint8_t *sheet, size_t len)
+/* The least interval at which the sheet passes, 0 where there is none, or minus the refusal: every one is tried from 1 up. */
+int64_t climbing_least_interval(const uint8_t *sheet, size_t len)
 {
     struct table table;
-    uint8_t refusal = rule->read(sheet, len, &table);
+    uint8_t refusal = read_sheet(sheet, len, &table);
     if (refusal != 0) {
         return -refusal;
     }
     for (table.interval = 1; table.interval <= HIGHEST; table.interval++) {
-        if (rule->meets(&table)) {
+        if (passes(&table)) {
             return table.interval;
         }
     }
     return 0;
-}
-
-/* The least at which it passes. */
-int64_t climbing_least_interval(const uint8_t *sheet, size_t len)
-{
-    return least_interval(&passing, sheet, len);
-}
-
-/* The least at which it is assured. */
-int64_t climbing_assured_least_interval(const uint8_t *sheet, size_t len)
-{
-    return least_interval(&assured, sheet, len);
 }
 
 /* The next choice that meets a rule after any allowed one, 0 at the end, or minus the refusal. */

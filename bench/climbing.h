@@ -13,8 +13,6 @@ int64_t climbing_rewrite(const uint8_t *sheet, size_t len, uint8_t *out, size_t 
 int64_t climbing_response(const uint8_t *sheet, size_t len, size_t place);
 int64_t climbing_verdict(const uint8_t *sheet, size_t len);
 int64_t climbing_least_interval(const uint8_t *sheet, size_t len);
-int64_t climbing_assured_verdict(const uint8_t *sheet, size_t len);
-int64_t climbing_assured_least_interval(const uint8_t *sheet, size_t len);
 int64_t climbing_next(const uint8_t *sheet, size_t len, uint32_t after);
 int64_t climbing_list(const uint8_t *sheet, size_t len, uint8_t *out, size_t out_len);
 int64_t climbing_assured_response(const uint8_t *sheet, size_t len, size_t place);

@@ -4,19 +4,18 @@
 #include "burdens.h"
 
 /* The backup is the largest that goes before the task's own. */
-uint32_t assured_time(const struct table *table, unsigned own, uint32_t limit)
+uint32_t assured_time(const struct table *table, unsigned own)
 {
     const struct record *record = &table->records[own];
     struct burden burden = assured_burden(table, own, record->fault_priority, backup_ahead(table, own));
-    return climb(table, &burden, record->cost, limit);
+    return climb(table, &burden, record->cost, record->deadline);
 }
 
 /* The priorities are those of the records in their order. */
 bool is_assured(const struct table *table)
 {
     for (unsigned place = 0; place < table->count; place++) {
-        unsigned own = table->priority_at[place];
-        if (assured_time(table, own, table->records[own].deadline) == 0) {
+        if (assured_time(table, table->priority_at[place]) == 0) {
             return false;
         }
     }
@@ -41,31 +40,31 @@ int64_t time_at(reading *read, timing *time, const uint8_t *sheet, size_t len, s
     if (place >= table.count) {
         return -FQ_BAD_PLACE;
     }
-    unsigned own = table.priority_at[place];
-    return time(&table, own, table.records[own].deadline);
+    return time(&table, table.priority_at[place]);
 }
 
-/* The time of a task within a limit while faults strike others only, or 0. */
-static uint32_t struck_elsewhere(const struct table *table, unsigned own, uint32_t limit)
+/* The time of a task while faults strike others only, or 0 where it is late. */
+static uint32_t struck_elsewhere(const struct table *table, unsigned own)
 {
+    const struct record *record = &table->records[own];
     struct burden burden = elsewhere_burden(table, own, largest_backup(table, own, own));
-    return climb(table, &burden, table->records[own].cost, limit);
+    return climb(table, &burden, record->cost, record->deadline);
 }
 
-/* The time of a task within a limit that is struck itself, or 0. */
-static uint32_t struck_itself(const struct table *table, unsigned own, uint32_t limit)
+/* The time of a task that is struck itself, or 0 where it is late. */
+static uint32_t struck_itself(const struct table *table, unsigned own)
 {
     const struct record *record = &table->records[own];
     unsigned fault = record->fault_priority;
     struct burden burden = itself_burden(table, own, fault, largest_backup(table, fault, 0));
-    return climb(table, &burden, (int64_t)record->cost + record->backup, limit);
+    return climb(table, &burden, (int64_t)record->cost + record->backup, record->deadline);
 }
 
 /* The longer of the two times. */
-uint32_t response(const struct table *table, unsigned own, uint32_t limit)
+uint32_t response(const struct table *table, unsigned own)
 {
-    uint32_t elsewhere = struck_elsewhere(table, own, limit);
-    uint32_t itself = elsewhere == 0 ? 0 : struck_itself(table, own, limit);
+    uint32_t elsewhere = struck_elsewhere(table, own);
+    uint32_t itself = elsewhere == 0 ? 0 : struck_itself(table, own);
     return itself == 0 || itself > elsewhere ? itself : elsewhere;
 }
 
@@ -73,8 +72,7 @@ uint32_t response(const struct table *table, unsigned own, uint32_t limit)
 bool passes(const struct table *table)
 {
     for (unsigned place = 0; place < table->count; place++) {
-        unsigned own = table->priority_at[place];
-        if (response(table, own, table->records[own].deadline) == 0) {
+        if (response(table, table->priority_at[place]) == 0) {
             return false;
         }
     }
@@ -114,8 +112,8 @@ uint32_t pack_choice(const struct table *table)
     return choice;
 }
 
-/* Each entry is looked at before it is set. */
-bool set_choice(struct table *table, uint32_t choice)
+/* Sets a choice from its number: whether it is allowed. */
+static bool set_choice(struct table *table, uint32_t choice)
 {
     for (unsigned place = 0; place < table->count; place++) {
         unsigned priority = table->priority_at[place];

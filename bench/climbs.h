@@ -13,8 +13,8 @@ typedef uint8_t reading(const uint8_t *sheet, size_t len, struct table *table);
 /* The same as reading any sheet, but a processor that is shared is refused last. */
 uint8_t read_whole(const uint8_t *sheet, size_t len, struct table *table);
 
-/* Finds a task's time within a limit in a table, or 0. */
-typedef uint32_t timing(const struct table *table, unsigned own, uint32_t limit);
+/* Finds a task's time in a table, or 0. */
+typedef uint32_t timing(const struct table *table, unsigned own);
 
 /* Reads a sheet, and answers the time of the record at a place, 0 where it has none, or minus the refusal. */
 int64_t time_at(reading *read, timing *time, const uint8_t *sheet, size_t len, size_t place);
@@ -22,8 +22,11 @@ int64_t time_at(reading *read, timing *time, const uint8_t *sheet, size_t len, s
 /* Whether a table meets a rule under its present choice. */
 typedef bool meeting(const struct table *table);
 
-/* The assured time and the response time of a task. */
-timing assured_time, response;
+/* The assured time of a task, or 0 where it has none. */
+uint32_t assured_time(const struct table *table, unsigned own);
+
+/* The response time of a task, or 0 where it is late. */
+uint32_t response(const struct table *table, unsigned own);
 
 /* Whether no task is late; the tasks are tried in record order up to the first late one. */
 bool passes(const struct table *table);
@@ -39,9 +42,6 @@ bool set_following(struct table *table);
 
 /* Sets the choice after the one of a number, or the first after 0, and whether there is one: the refusal of the number, or 0. */
 uint8_t set_after(struct table *table, uint32_t after, bool *is_left);
-
-/* Sets a choice from its number: whether it is allowed. */
-bool set_choice(struct table *table, uint32_t choice);
 
 /* The present choice as a number, four bits for each record. */
 uint32_t pack_choice(const struct table *table);

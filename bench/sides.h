@@ -5,7 +5,7 @@
 #include <stddef.h>
 #include <stdint.h>
 
-/* The calls of one side, and the number by which those that are given a rule are asked for its own. */
+/* The calls of one side. */
 struct side {
     uint8_t (*judge)(const uint8_t *, size_t);
     int64_t (*rewrite)(const uint8_t *, size_t, uint8_t *, size_t);
@@ -15,11 +15,6 @@ struct side {
     int64_t (*next)(const uint8_t *, size_t, uint32_t);
     int64_t (*list)(const uint8_t *, size_t, uint8_t *, size_t);
     int64_t (*replay)(const uint8_t *, size_t, const uint8_t *, size_t, uint64_t *, size_t);
-    int64_t (*choice_times)(const uint8_t *, size_t, uint32_t, uint32_t, int32_t *, size_t);
-    int64_t (*margin)(const uint8_t *, size_t, size_t, uint32_t, uint32_t);
-    int64_t (*factor)(const uint8_t *, size_t, uint32_t);
-    int64_t (*release)(const uint8_t *, size_t, const uint8_t *, size_t, uint8_t);
-    uint32_t assured;
 };
 
 /* By the response times, or by the assured times in their place. */

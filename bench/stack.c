@@ -44,19 +44,11 @@ static void response(void) { fq_response(sheet, length, 0); }
 static void slack(void) { fq_slack(sheet, length, 0, &figure, 1); }
 static void verdict(void) { fq_verdict(sheet, length); }
 static void times(void) { fq_times(sheet, length, times_numbers, FQ_TIMES_NUMBERS); }
-static void choice_times(void) { fq_choice_times(sheet, length, 0x11111111, 0, times_numbers, FQ_TIMES_NUMBERS); }
-static void assured_choice_times(void) { fq_choice_times(sheet, length, 0x11111111, 1, times_numbers, FQ_TIMES_NUMBERS); }
-static void margin_of(void) { fq_margin(sheet, length, 0, FQ_MARGIN_COST, 0); }
-static void assured_margin(void) { fq_margin(sheet, length, 0, FQ_MARGIN_PERIOD, 1); }
-static void factor(void) { fq_factor(sheet, length, 0); }
-static void assured_factor(void) { fq_factor(sheet, length, 1); }
 static void least_interval(void) { fq_least_interval(sheet, length); }
 static void next(void) { fq_next(sheet, length, 0); }
 static void list(void) { fq_list(sheet, length, output, sizeof output); }
 static void short_list(void) { fq_list(sheet, length, output, FEW); }
 static void assured_response(void) { fq_assured_response(sheet, length, 0); }
-static void assured_verdict(void) { fq_assured_verdict(sheet, length); }
-static void assured_least_interval(void) { fq_assured_least_interval(sheet, length); }
 static void assured_next(void) { fq_assured_next(sheet, length, 0); }
 static void assured_list(void) { fq_assured_list(sheet, length, output, sizeof output); }
 static void short_assured_list(void) { fq_assured_list(sheet, length, output, FEW); }
@@ -64,7 +56,6 @@ static void replay(void) { fq_replay(sheet, length, log_bytes, sizeof log_bytes,
 static void cores(void) { fq_cores(sheet, length, FQ_MOST_CORES, output, sizeof output); }
 static void check(void) { fq_check(sheet, length, record_bytes, sizeof record_bytes); }
 static void release(void) { fq_release(sheet, length, sheet, length, 255); }
-static void assured_release(void) { fq_assured_release(sheet, length, sheet, length, 255); }
 static void grant(void) { fq_grant(40, sizeof uses, starts, FQ_JOB_NUMBERS * sizeof uses, uses, sizeof uses, resources, sizeof resources, 1, 3, 0, 11, &margin, 1); }
 static void mend(void) { fq_mend(sheet, sizeof sheet, output, sizeof output, changes, FQ_CHANGES_NUMBERS); }
 
@@ -92,13 +83,10 @@ static const struct {
 } CALLS[] = {
     {"fq_judge", judge}, {"fq_write", write}, {"fq_write_shared", write_shared}, {"fq_rewrite", rewrite}, {"fq_record", record},
     {"fq_response", response}, {"fq_slack", slack}, {"fq_verdict", verdict}, {"fq_times", times},
-    {"fq_choice_times", choice_times}, {"fq_choice_times, assured", assured_choice_times},
-    {"fq_margin", margin_of}, {"fq_margin, assured", assured_margin}, {"fq_factor", factor}, {"fq_factor, assured", assured_factor},
     {"fq_least_interval", least_interval}, {"fq_next", next}, {"fq_list", list}, {"fq_list, no room", short_list},
-    {"fq_assured_response", assured_response}, {"fq_assured_verdict", assured_verdict}, {"fq_assured_least_interval", assured_least_interval},
-    {"fq_assured_next", assured_next}, {"fq_assured_list", assured_list},
+    {"fq_assured_response", assured_response}, {"fq_assured_next", assured_next}, {"fq_assured_list", assured_list},
     {"fq_assured_list, no room", short_assured_list}, {"fq_replay", replay}, {"fq_check", check}, {"fq_grant", grant}, {"fq_mend", mend},
-    {"fq_cores", cores}, {"fq_release", release}, {"fq_assured_release", assured_release},
+    {"fq_cores", cores}, {"fq_release", release},
 };
 
 /* The most that a call takes on the everyday sheet, at its own interval and at 1. */

@@ -3,10 +3,10 @@
 
 #include "burdens.h"
 
-/* The least span that covers its burden, or 0 where it passes the limit: none is shorter than what a span of 1 has to cover. */
-static uint32_t least(const struct table *table, const struct burden *burden, uint32_t limit)
+/* The least span that covers its burden, or 0 where it passes the deadline: none is shorter than what a span of 1 has to cover. */
+static uint32_t least(const struct table *table, const struct burden *burden, uint32_t deadline)
 {
-    return climb(table, burden, due(table, burden, 1), limit);
+    return climb(table, burden, due(table, burden, 1), deadline);
 }
 
 /* Whether there is one. */
@@ -20,25 +20,25 @@ static bool reaches(const struct table *table, const struct burden *burden, uint
 }
 
 /* The longer of the two times. */
-uint32_t started_response(const struct table *table, unsigned own, uint32_t limit)
+uint32_t started_response(const struct table *table, unsigned own)
 {
     const struct record *record = &table->records[own];
     struct burden burden = elsewhere_burden(table, own, largest_backup(table, own, own));
-    uint32_t elsewhere = least(table, &burden, limit);
+    uint32_t elsewhere = least(table, &burden, record->deadline);
     if (elsewhere == 0) {
         return 0;
     }
     burden = itself_burden(table, own, record->fault_priority, largest_backup(table, record->fault_priority, 0));
-    uint32_t itself = least(table, &burden, limit);
+    uint32_t itself = least(table, &burden, record->deadline);
     return itself == 0 || itself > elsewhere ? itself : elsewhere;
 }
 
 /* The backup is the largest that goes before the task's own. */
-uint32_t started_assured_time(const struct table *table, unsigned own, uint32_t limit)
+uint32_t started_assured_time(const struct table *table, unsigned own)
 {
     const struct record *record = &table->records[own];
     struct burden burden = assured_burden(table, own, record->fault_priority, backup_ahead(table, own));
-    return least(table, &burden, limit);
+    return least(table, &burden, record->deadline);
 }
 
 /* One of the two equations. */

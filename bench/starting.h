@@ -2,10 +2,13 @@
 #ifndef STARTING_H
 #define STARTING_H
 
-#include "climbs.h"
+#include "reading.h"
 
-/* The response time and the assured time of a task. */
-timing started_response, started_assured_time;
+/* The response time of a task, or 0 where it is late. */
+uint32_t started_response(const struct table *table, unsigned own);
+
+/* The assured time of a task, or 0 where it has none. */
+uint32_t started_assured_time(const struct table *table, unsigned own);
 
 /* Whether a task is on time with a largest backup: as M where the fault priority is 0, else as N. */
 bool bears(const struct table *table, unsigned own, unsigned fault, uint32_t backup);

@@ -20,10 +20,9 @@
  * The x86-64 code uses the SSE registers and, in some functions, the 128 bytes below the stack pointer (the red zone), so
  * whoever calls it where the first are not saved, or where an interrupt may write the second (a kernel, an interrupt
  * handler), saves the first and switches to a stack of its own. fq_judge, fq_write, fq_rewrite, fq_record and fq_grant take about a
- * microsecond, fq_mend a few; fq_response, fq_slack, fq_verdict, fq_times, fq_choice_times, fq_assured_response,
- * fq_assured_verdict, fq_release, fq_assured_release, and fq_cores with up to 32 verdicts, microseconds to milliseconds;
- * fq_least_interval, fq_assured_least_interval and fq_margin with up to 17 verdicts, fq_factor with up to 27, fq_next, fq_list,
- * fq_assured_next and fq_assured_list microseconds to some tens of milliseconds, for all 40320 choices of eight tasks too
+ * microsecond, fq_mend a few; fq_response, fq_slack, fq_verdict, fq_times, fq_assured_response, fq_release,
+ * and fq_cores with up to 32 verdicts, microseconds to milliseconds; fq_least_interval, fq_next, fq_list, fq_assured_next and
+ * fq_assured_list microseconds to some tens of milliseconds, for all 40320 choices of eight tasks too
  * (docs/PERFORMANCE.md has the slowest sheets).
  * Where the lowest task, of priority 1, is late, no choice passes and none is assured, and the next choices and the
  * lists say so from that one response.
@@ -41,7 +40,7 @@ extern "C" {
 #endif
 
 /* The version of this header and library; `./desk --version` prints the same. */
-#define FQ_VERSION "1.18.0"
+#define FQ_VERSION "1.17.0"
 
 /*
  * What a refused call gives, in the order in which the rules are tried: the number of the first rule broken,
@@ -59,12 +58,11 @@ enum fq_refusal {
     FQ_BAD_DEADLINE = 8,        /* a deadline is above its period */
     FQ_BAD_PRIORITY = 9,        /* a priority is outside 1 to the count, or an earlier record has it */
     FQ_BAD_FAULT_PRIORITY = 10, /* a fault priority is outside 1 to the record's own priority */
-    FQ_SHARED_PROCESSOR = 19,   /* logs are replayed, records checked, sheets, times and choices assured and cores given for the whole processor only */
+    FQ_SHARED_PROCESSOR = 19,   /* logs are replayed, records checked, choices assured and cores given for the whole processor only */
     FQ_BAD_CORES = 23,          /* the number of cores is not 1 to 4 */
     FQ_DIFFERENT_COUNTS = 24,   /* the sheet in use and the candidate have different counts */
     FQ_BAD_PLACE = 12,          /* the record place asked for, or a protected place, is not below the count */
-    FQ_BAD_CHOICE = 13,         /* the choice given, to go on after or to take times under, is neither 0 nor allowed */
-    FQ_BAD_FIELD = 26,          /* the field asked for is none of enum fq_margin_field */
+    FQ_BAD_CHOICE = 13,         /* the choice to go on after is neither 0 nor allowed */
     FQ_ODD_LOG = 14,            /* a log has an odd number of bytes, or a record one that is no multiple of three */
     FQ_STRANGE_BIT = 15,        /* a tick has a release bit above the count, or one of the seven other bits set */
     FQ_EARLY_RELEASE = 16,      /* a release sooner than its period after that task's last */
@@ -110,22 +108,11 @@ enum fq_field {
     FQ_FAULT_PRIORITY
 };
 
-/* The field of a record that fq_margin moves. */
-enum fq_margin_field {
-    FQ_MARGIN_COST,
-    FQ_MARGIN_BACKUP,
-    FQ_MARGIN_DEADLINE,
-    FQ_MARGIN_PERIOD
-};
-
-/* The factor of fq_factor that leaves every cost and backup as it is. */
-#define FQ_FACTOR_ONE 1000
-
 /* How many numbers fq_mend writes for each change, and how many there are room for at the most: 17 changes after their number. */
 #define FQ_CHANGE_NUMBERS 4
 #define FQ_CHANGES_NUMBERS 69
 
-/* How many numbers fq_times and fq_choice_times write for each record, and for eight. */
+/* How many numbers fq_times writes for each record, and for eight. */
 #define FQ_TIME_NUMBERS 3
 #define FQ_TIMES_NUMBERS 24
 
@@ -199,41 +186,10 @@ int64_t fq_verdict(const uint8_t *sheet, size_t len);
 int64_t fq_times(const uint8_t *sheet, size_t len, int32_t *out, size_t out_len);
 
 /*
- * The same under a choice of fault priorities in the place of the sheet's own, by the published equations where `assured` is
- * 0, and by the assured times of fq_assured_response where it is not. `choice` is a number as fq_next gives it; 0 stands for the
- * sheet's own, so that fq_times is this with 0 and 0. A slack by the assured equation is the deadline less the assured time, which
- * is searched for up to 65535 too.
- * Answer: 1 where the choice meets the rule, so that fq_next or fq_assured_next gives it, and 0 where it does not; or minus the
- * refusal (1 to 10, 18, 19 where `assured` is not 0 and the processor is shared, 13 where the choice is not allowed, and last 11
- * where out_len is below 3 x count).
- */
-int64_t fq_choice_times(const uint8_t *sheet, size_t len, uint32_t choice, uint32_t assured, int32_t *out, size_t out_len);
-
-/*
  * The least fault interval, 1 to 65535, at which the sheet passes with its own fault priorities.
  * Answer: the interval, 0 where there is none, or minus the refusal (1 to 10 or 18).
  */
 int64_t fq_least_interval(const uint8_t *sheet, size_t len);
-
-/*
- * How far one figure of the record at a place (from 0) can go, everything else as it is: the largest cost, the largest backup, the
- * least deadline or the least period (`field`, enum fq_margin_field) with which the sheet is good and passes with its own
- * fault priorities; where `assured` is not 0, with which every task has an assured time. Each value up to it does and none
- * beyond: of a cost and a backup the values from 1 to the deadline, of a deadline those from 1 to the period, of a period those from 1
- * to 65535.
- * Answer: the value, 0 where there is none, or minus the refusal (1 to 10, 18, 19 where `assured` is not 0 and the processor is shared,
- * 12, and last 26 where the field is none of the four).
- */
-int64_t fq_margin(const uint8_t *sheet, size_t len, size_t place, uint32_t field, uint32_t assured);
-
-/*
- * The largest factor in thousandths, 1 to 65535000, by which all costs and backups together can grow, each rounded up, with
- * which the sheet is good and passes, or, where `assured` is not 0, is assured. It is below FQ_FACTOR_ONE where the sheet does not, and
- * they must shrink.
- * Answer: the factor, 0 where there is none, or minus the refusal (1 to 10, 18, and 19 where `assured` is not 0 and the processor is
- * shared).
- */
-int64_t fq_factor(const uint8_t *sheet, size_t len, uint32_t assured);
 
 /*
  * The next choice of fault priorities under which the sheet passes, after any allowed choice. A choice is a
@@ -259,18 +215,6 @@ int64_t fq_list(const uint8_t *sheet, size_t len, uint8_t *out, size_t out_len);
  * last 12).
  */
 int64_t fq_assured_response(const uint8_t *sheet, size_t len, size_t place);
-
-/*
- * 1 where every task has an assured time under the sheet's own fault priorities, 0 where one has none, or minus the refusal (1
- * to 10, 18, and last 19). A sheet can pass and not be assured, or be assured and not pass.
- */
-int64_t fq_assured_verdict(const uint8_t *sheet, size_t len);
-
-/*
- * The least fault interval, 1 to 65535, at which the sheet is assured with its own fault priorities.
- * Answer: the interval, 0 where there is none, or minus the refusal (1 to 10, 18, and last 19).
- */
-int64_t fq_assured_least_interval(const uint8_t *sheet, size_t len);
 
 /*
  * The next choice of fault priorities under which every task has an assured time, after any allowed choice, in
@@ -371,15 +315,6 @@ int64_t fq_cores(const uint8_t *sheet, size_t len, uint8_t cores, uint8_t *out, 
  */
 int64_t fq_release(const uint8_t *in_use, size_t in_use_len, const uint8_t *candidate, size_t candidate_len,
                    uint8_t protected_places);
-
-/*
- * The same by the assured times: the candidate is to be loaded exactly if every task of it has one and at no protected place it is
- * longer than that of the sheet in use. A task that has none in use counts as longer than any time.
- * Answer: 1 load the candidate, 0 keep the one in use, or minus the refusal: that of the sheet in use, then that of the
- * candidate (1 to 10, 18 or 19 each), then 24 and 12.
- */
-int64_t fq_assured_release(const uint8_t *in_use, size_t in_use_len, const uint8_t *candidate, size_t candidate_len,
-                           uint8_t protected_places);
 
 #ifdef __cplusplus
 }

@@ -38,7 +38,7 @@ static void check_times(struct comparison *comparison, struct tally *tally, cons
     check_every_time(comparison, FQ_TIME_NUMBERS * draft->tasks);
     check_every_time(comparison, FQ_TIMES_NUMBERS);
     check_every_time(comparison, random_below(&comparison->generator, FQ_TIME_NUMBERS * draft->tasks));
-    if (check_verdict(comparison, PASSING) == 1) {
+    if (check_verdict(comparison) == 1) {
         tally->analysis.passing++;
     } else {
         tally->analysis.late++;
@@ -116,9 +116,8 @@ static void check_assured_times(struct comparison *comparison, struct tally *tal
     tally->assured.refused += draft->is_shared;
     tally->assured.assured += is_assured;
     tally->assured.not_assured += !draft->is_shared && !is_assured;
-    tally->assured.assured_only += is_assured && check_verdict(comparison, PASSING) == 0;
-    tally->assured.passing_only += !draft->is_shared && !is_assured && check_verdict(comparison, PASSING) == 1;
-    check_verdict(comparison, ASSURED);
+    tally->assured.assured_only += is_assured && check_verdict(comparison) == 0;
+    tally->assured.passing_only += !draft->is_shared && !is_assured && check_verdict(comparison) == 1;
 }
 
 /* Steps and lists by the assured times; a shared draft is refused, and asked again with the whole processor. */
@@ -147,32 +146,6 @@ static void check_listed(struct comparison *comparison, struct tally *tally, con
     check_assured_lists(comparison, tally, draft);
 }
 
-/* Asks for the least interval by the assured times, of the whole processor where the draft is shared and refused. */
-static void check_assured_interval(struct comparison *comparison, struct tally *tally, const struct draft *draft)
-{
-    struct draft whole = *draft;
-    int64_t least = check_least_interval(comparison, ASSURED);
-    if (draft->is_shared) {
-        set_whole(&whole);
-        struct sheet sheet = packed(&whole);
-        lay_sheet(comparison, sheet.bytes, sheet.length);
-        least = check_least_interval(comparison, ASSURED);
-        sheet = packed(draft);
-        lay_sheet(comparison, sheet.bytes, sheet.length);
-    }
-    tally->assured.least_intervals += least > 0;
-    tally->assured.least_intervals_of_none += least == 0;
-}
-
-/* Lays the draft again, and asks for its times under choices by both rules. */
-static void check_choices(struct comparison *comparison, struct tally *tally, const struct draft *draft)
-{
-    struct sheet sheet = packed(draft);
-    lay_sheet(comparison, sheet.bytes, sheet.length);
-    check_times_under(comparison, tally, PASSING, draft);
-    check_times_under(comparison, tally, ASSURED, draft);
-}
-
 /* Draws a sheet of the sort whose turn it is and asks what is affordable for that sort. */
 void analysis_round(struct comparison *comparison, struct tally *tally, uint64_t round)
 {
@@ -190,8 +163,7 @@ void analysis_round(struct comparison *comparison, struct tally *tally, uint64_t
         draft = draft_for_least_interval(generator);
         check_draft(comparison, tally, &draft);
         tally->analysis.least_intervals++;
-        tally->analysis.least_intervals_of_none += check_least_interval(comparison, PASSING) == 0;
-        check_assured_interval(comparison, tally, &draft);
+        tally->analysis.least_intervals_of_none += check_least_interval(comparison) == 0;
         check_assured_times(comparison, tally, &draft);
     } else if (round % LISTED_EVERY == 3) {
         draft = draft_to_list(generator);
@@ -201,7 +173,6 @@ void analysis_round(struct comparison *comparison, struct tally *tally, uint64_t
         check_draft(comparison, tally, &draft);
         check_assured_times(comparison, tally, &draft);
     }
-    check_choices(comparison, tally, &draft);
 }
 
 /*
@@ -213,12 +184,10 @@ static void check_far_intervals(struct comparison *comparison)
 {
     static const uint8_t last[] = {0x10, 0x00, 0x09, 0x00, 0x01, 0xFF, 0xFE, 0xFF, 0xFF, 0xFF, 0xFF, 0x11};
     static const uint8_t none[] = {0x10, 0x00, 0x09, 0x00, 0x01, 0xFF, 0xFF, 0xFF, 0xFF, 0xFF, 0xFF, 0x11};
-    for (enum rule rule = PASSING; rule < RULES; rule++) {
-        lay_sheet(comparison, last, sizeof last);
-        check_interval(comparison, rule, HIGHEST);
-        lay_sheet(comparison, none, sizeof none);
-        check_interval(comparison, rule, 0);
-    }
+    lay_sheet(comparison, last, sizeof last);
+    check_interval(comparison, HIGHEST);
+    lay_sheet(comparison, none, sizeof none);
+    check_interval(comparison, 0);
 }
 
 /* Asks request 12's case, which passes and is not assured, and what it comes to with each fault priority at its priority, which does neither. */

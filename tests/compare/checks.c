@@ -128,27 +128,6 @@ int64_t check_every_time(struct comparison *comparison, size_t out_len)
     return call.plain;
 }
 
-/* A number that asks for a rule: 0, or any other. */
-static uint32_t asked_by(struct comparison *comparison, enum rule rule)
-{
-    return rule == PASSING ? 0 : 1 + (uint32_t)random_below(&comparison->generator, UINT32_MAX);
-}
-
-/* Compares the same under a choice by a rule. */
-int64_t check_choice_times(struct comparison *comparison, enum rule rule, uint32_t choice, size_t out_len)
-{
-    int32_t before[TIMES_ROOM], library[TIMES_ROOM], plain[TIMES_ROOM];
-    const uint8_t *sheet = laid(comparison);
-    uint32_t assured = asked_by(comparison, rule);
-    struct call call = {.function = "fq_choice_times", .argument = choice};
-    struct copies copies = lend_copies(comparison, before, library, plain, sizeof before);
-    call.library = fq_choice_times(sheet, comparison->sheet_length, choice, assured, library + 1, out_len);
-    call.plain = plain_choice_times(sheet, comparison->sheet_length, choice, assured, plain + 1, out_len);
-    settle_call(comparison, &call);
-    settle_copies(comparison, &call, "times under a choice", &copies, call.plain >= 0);
-    return call.plain;
-}
-
 /* Compares the library's answer to a question about the whole sheet with the expected one. */
 static void check_whole(struct comparison *comparison, const char *function, uint64_t argument,
                         int64_t library, int64_t expected)
@@ -165,62 +144,27 @@ uint8_t check_judge(struct comparison *comparison)
     return expected;
 }
 
-/* Compares the verdict by a rule. */
-int64_t check_verdict(struct comparison *comparison, enum rule rule)
+/* Compares the verdict. */
+int64_t check_verdict(struct comparison *comparison)
 {
-    const uint8_t *sheet = laid(comparison);
-    size_t length = comparison->sheet_length;
-    int64_t expected = rule == PASSING ? plain_verdict(sheet, length) : plain_assured_verdict(sheet, length);
-    if (rule == PASSING) {
-        check_whole(comparison, "fq_verdict", 0, fq_verdict(sheet, length), expected);
-    } else {
-        check_whole(comparison, "fq_assured_verdict", 0, fq_assured_verdict(sheet, length), expected);
-    }
+    int64_t expected = plain_verdict(laid(comparison), comparison->sheet_length);
+    check_whole(comparison, "fq_verdict", 0, fq_verdict(laid(comparison), comparison->sheet_length), expected);
     return expected;
 }
 
-/* Compares the least interval by a rule. */
-int64_t check_least_interval(struct comparison *comparison, enum rule rule)
+/* Compares the least interval. */
+int64_t check_least_interval(struct comparison *comparison)
 {
-    const uint8_t *sheet = laid(comparison);
-    size_t length = comparison->sheet_length;
-    int64_t expected = rule == PASSING ? plain_least_interval(sheet, length) : plain_assured_least_interval(sheet, length);
-    check_interval(comparison, rule, expected);
+    int64_t expected = plain_least_interval(laid(comparison), comparison->sheet_length);
+    check_interval(comparison, expected);
     return expected;
 }
 
 /* Compares the library's least interval with what is already known. */
-void check_interval(struct comparison *comparison, enum rule rule, int64_t expected)
+void check_interval(struct comparison *comparison, int64_t expected)
 {
-    const uint8_t *sheet = laid(comparison);
-    size_t length = comparison->sheet_length;
-    if (rule == PASSING) {
-        check_whole(comparison, "fq_least_interval", 0, fq_least_interval(sheet, length), expected);
-    } else {
-        check_whole(comparison, "fq_assured_least_interval", 0, fq_assured_least_interval(sheet, length), expected);
-    }
-}
-
-/* Compares how far a field of the record at a place can go by a rule. */
-int64_t check_margin(struct comparison *comparison, enum rule rule, size_t place, uint32_t field)
-{
-    const uint8_t *sheet = laid(comparison);
-    size_t length = comparison->sheet_length;
-    uint32_t assured = asked_by(comparison, rule);
-    int64_t expected = plain_margin(sheet, length, place, field, assured);
-    check_whole(comparison, "fq_margin", place, fq_margin(sheet, length, place, field, assured), expected);
-    return expected;
-}
-
-/* Compares the factor by a rule. */
-int64_t check_factor(struct comparison *comparison, enum rule rule)
-{
-    const uint8_t *sheet = laid(comparison);
-    size_t length = comparison->sheet_length;
-    uint32_t assured = asked_by(comparison, rule);
-    int64_t expected = plain_factor(sheet, length, assured);
-    check_whole(comparison, "fq_factor", assured, fq_factor(sheet, length, assured), expected);
-    return expected;
+    check_whole(comparison, "fq_least_interval", 0,
+                fq_least_interval(laid(comparison), comparison->sheet_length), expected);
 }
 
 /* Compares the step after a choice, allowed or not, by a rule. */
@@ -274,18 +218,13 @@ int64_t check_supplied(struct comparison *comparison, const struct log *record)
     return call.plain;
 }
 
-/* A function that decides between two sheets. */
-typedef int64_t deciding_call(const uint8_t *in_use, size_t in_use_len, const uint8_t *candidate, size_t candidate_len, uint8_t protected_places);
-
-/* Compares which of two sheets is to be loaded by a rule: the one laid is in use, and the library gets a copy of the candidate, which must not change. */
-int64_t check_release(struct comparison *comparison, enum rule rule, const struct sheet *candidate, uint8_t protected_places)
+/* Compares which of two sheets is to be loaded: the one laid is in use, and the library gets a copy of the candidate, which must not change. */
+int64_t check_release(struct comparison *comparison, const struct sheet *candidate, uint8_t protected_places)
 {
     struct sheet given = *candidate;
-    struct call call = {.function = rule == PASSING ? "fq_release" : "fq_assured_release", .argument = protected_places, .candidate = candidate};
-    deciding_call *library = rule == PASSING ? fq_release : fq_assured_release;
-    deciding_call *plain = rule == PASSING ? plain_release : plain_assured_release;
-    call.library = library(laid(comparison), comparison->sheet_length, given.bytes, given.length, protected_places);
-    call.plain = plain(laid(comparison), comparison->sheet_length, candidate->bytes, candidate->length, protected_places);
+    struct call call = {.function = "fq_release", .argument = protected_places, .candidate = candidate};
+    call.library = fq_release(laid(comparison), comparison->sheet_length, given.bytes, given.length, protected_places);
+    call.plain = plain_release(laid(comparison), comparison->sheet_length, candidate->bytes, candidate->length, protected_places);
     settle_call(comparison, &call);
     settle(comparison, &call, "candidate", memcmp(&given, candidate, sizeof given) == 0);
     return call.plain;

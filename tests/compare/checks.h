@@ -22,11 +22,8 @@ int64_t check_record(struct comparison *comparison, size_t place);
 int64_t check_response(struct comparison *comparison, enum rule rule, size_t place);
 int64_t check_slack(struct comparison *comparison, size_t place, size_t out_len);
 int64_t check_every_time(struct comparison *comparison, size_t out_len);
-int64_t check_choice_times(struct comparison *comparison, enum rule rule, uint32_t choice, size_t out_len);
-int64_t check_verdict(struct comparison *comparison, enum rule rule);
-int64_t check_least_interval(struct comparison *comparison, enum rule rule);
-int64_t check_margin(struct comparison *comparison, enum rule rule, size_t place, uint32_t field);
-int64_t check_factor(struct comparison *comparison, enum rule rule);
+int64_t check_verdict(struct comparison *comparison);
+int64_t check_least_interval(struct comparison *comparison);
 int64_t check_next(struct comparison *comparison, enum rule rule, uint32_t after);
 int64_t check_list(struct comparison *comparison, enum rule rule, size_t out_len);
 int64_t check_replay(struct comparison *comparison, const struct log *log, size_t counts_len);
@@ -34,7 +31,7 @@ int64_t check_supplied(struct comparison *comparison, const struct log *record);
 int64_t check_grant(struct comparison *comparison, const struct asking *asking, size_t margin_len, int64_t *margin);
 int64_t check_mend(struct comparison *comparison, size_t out_len, size_t changes_len);
 int64_t check_cores(struct comparison *comparison, uint8_t cores, size_t out_len);
-int64_t check_release(struct comparison *comparison, enum rule rule, const struct sheet *candidate, uint8_t protected_places);
+int64_t check_release(struct comparison *comparison, const struct sheet *candidate, uint8_t protected_places);
 
 /* Checks that the library's answer to a request, and its margin, are the expected ones; the plain desk is not asked. */
 void check_granting(struct comparison *comparison, const struct asking *asking, int64_t answer, int64_t margin);
@@ -42,8 +39,8 @@ void check_granting(struct comparison *comparison, const struct asking *asking, 
 /* Checks that the library's step after a choice is the expected one; the plain desk is not asked again. */
 void check_step(struct comparison *comparison, enum rule rule, uint32_t after, int64_t expected);
 
-/* Checks that the library's least interval by a rule is the expected one; the plain desk is not asked. */
-void check_interval(struct comparison *comparison, enum rule rule, int64_t expected);
+/* Checks that the library's least interval is the expected one; the plain desk is not asked. */
+void check_interval(struct comparison *comparison, int64_t expected);
 
 /* How many changes the plain desk listed last. */
 uint64_t listed_changes(const struct comparison *comparison);

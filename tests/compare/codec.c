@@ -45,12 +45,10 @@ static void check_refused_calls(struct comparison *comparison)
     size_t room = random_below(generator, 2);
     check_slack(comparison, random_below(generator, FQ_MOST_TASKS + 2), room);
     check_every_time(comparison, random_below(generator, FQ_TIMES_NUMBERS + 1));
+    check_verdict(comparison);
+    check_least_interval(comparison);
     for (enum rule rule = PASSING; rule < RULES; rule++) {
-        check_verdict(comparison, rule);
-        check_least_interval(comparison, rule);
         check_refused_by(comparison, rule);
-        check_margin(comparison, rule, random_below(generator, FQ_MOST_TASKS + 2), (uint32_t)random_below(generator, 5));
-        check_factor(comparison, rule);
     }
     check_replay(comparison, &(struct log){.length = random_below(generator, LONGEST_LOG)}, FQ_COUNTS);
     check_supplied(comparison, &(struct log){.length = random_below(generator, LONGEST_LOG)});

@@ -15,7 +15,7 @@ enum {
     DEFAULT_COUNT = 80000,
     /*
      * For so many codec sheets one analysis sheet is run, one log replayed and one record checked, one lock asked for, one sheet typed by
-     * hand mended, one box placed, one pair of sheets put to the release desk, and one sheet asked for margins.
+     * hand mended, one box placed, and one pair of sheets put to the release desk.
      */
     FOR_ANALYSIS = 20,
     FOR_REPLAY = 4,
@@ -23,7 +23,6 @@ enum {
     FOR_MEND = 4,
     FOR_CORES = 8,
     FOR_RELEASE = 4,
-    FOR_MARGINS = 20,
     NO_DIFFERENCE = 0,
     DIFFERENT_OR_NOTHING_RUN = 1,
     BAD_ARGUMENTS = 2
@@ -41,7 +40,6 @@ static const struct {
     {mend_round, FOR_MEND},
     {cores_round, FOR_CORES},
     {release_round, FOR_RELEASE},
-    {margin_round, FOR_MARGINS},
 };
 
 /* Prints how the program is used. */
@@ -51,12 +49,11 @@ static void print_usage(FILE *stream)
             "usage: compare [SEED [COUNT]]\n"
             "Runs COUNT random sheets through reading and writing, COUNT / %d through the analysis and\n"
             "COUNT / %d logs and as many supplier's records through the replay, asks for COUNT / %d locks, mends COUNT / %d sheets\n"
-            "typed by hand, places the records of COUNT / %d boxes, puts COUNT / %d pairs of sheets to the release desk and asks\n"
-            "COUNT / %d sheets for their margins,\n"
+            "typed by hand, places the records of COUNT / %d boxes and puts COUNT / %d pairs of sheets to the release desk,\n"
             "each through the library and through a plain implementation, and compares the answers.\n"
             "SEED and COUNT are whole numbers; the defaults are %d and %d.\n"
             "Status: 0 no difference, 1 a difference or nothing run, 2 bad arguments.\n",
-            FOR_ANALYSIS, FOR_REPLAY, FOR_LOCK, FOR_MEND, FOR_CORES, FOR_RELEASE, FOR_MARGINS, DEFAULT_SEED, DEFAULT_COUNT);
+            FOR_ANALYSIS, FOR_REPLAY, FOR_LOCK, FOR_MEND, FOR_CORES, FOR_RELEASE, DEFAULT_SEED, DEFAULT_COUNT);
 }
 
 /* Reads a whole number of decimal digits only. */

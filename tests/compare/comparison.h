@@ -17,7 +17,7 @@ enum {
 };
 
 /* The kinds of rounds. */
-enum round_kind { CODEC, ANALYSIS, REPLAY, LOCK, MEND, CORES, RELEASE, MARGINS };
+enum round_kind { CODEC, ANALYSIS, REPLAY, LOCK, MEND, CORES, RELEASE };
 
 /* The state of a whole run. */
 struct comparison {

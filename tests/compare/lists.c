@@ -1,4 +1,4 @@
-/* Steps from choice to choice, lists of choices and times under a choice, by the rule that they are asked by. */
+/* Steps from choice to choice and lists of choices, by the rule that they are asked by. */
 #include "lists.h"
 
 #include "../plain/plain.h"
@@ -23,8 +23,6 @@ void check_refused_by(struct comparison *comparison, enum rule rule)
     check_next(comparison, rule, (uint32_t)random_below(generator, UINT32_MAX));
     check_list(comparison, rule, 0);
     check_list(comparison, rule, random_below(generator, SHEET_ROOM));
-    check_choice_times(comparison, rule, 0, random_below(generator, FQ_TIMES_NUMBERS + 1));
-    check_choice_times(comparison, rule, (uint32_t)random_below(generator, UINT32_MAX), FQ_TIMES_NUMBERS);
 }
 
 /* Where the fault priority of the record at a place stands in a choice. */
@@ -120,31 +118,4 @@ void check_lists(struct comparison *comparison, struct tally *tally, enum rule r
         check_list(comparison, rule, random_below(generator, CHOICE_BYTES * choices));
     }
     add_list(&tally->lists[rule], draft, choices, all);
-}
-
-/* A choice that a draft has not: a record's fault priority is missing, too high, or stands past the last record. */
-static uint32_t refused_choice(struct generator *generator, const struct draft *draft)
-{
-    unsigned place = (unsigned)random_below(generator, draft->tasks);
-    uint32_t allowed = choice_of(generator, draft, false);
-    uint32_t cleared = allowed & ~((uint32_t)HIGHEST_FAULT << shift_of(place));
-    if (draft->tasks < FQ_MOST_TASKS && once_in(generator, 3)) {
-        return allowed | (uint32_t)1 << shift_of(draft->tasks);
-    }
-    return draft->tasks > 1 && once_in(generator, 2) ? cleared : cleared | (draft->numbers[place][PRIORITY] + 1u) << shift_of(place);
-}
-
-/* Refused before the room is looked at, and for too little room after that. */
-void check_times_under(struct comparison *comparison, struct tally *tally, enum rule rule, const struct draft *draft)
-{
-    struct generator *generator = &comparison->generator;
-    struct choice_tally *choices = &tally->choices[rule];
-    size_t needed = FQ_TIME_NUMBERS * draft->tasks;
-    uint32_t allowed = choice_of(generator, draft, false);
-    check_choice_times(comparison, rule, 0, needed);
-    check_choice_times(comparison, rule, allowed, random_below(generator, needed));
-    choices->refused += check_choice_times(comparison, rule, refused_choice(generator, draft), random_below(generator, FQ_TIMES_NUMBERS + 1)) == -FQ_BAD_CHOICE;
-    int64_t answer = check_choice_times(comparison, rule, allowed, FQ_TIMES_NUMBERS);
-    choices->met += answer == 1;
-    choices->missed += answer == 0;
 }

@@ -1,10 +1,10 @@
-/* Steps from choice to choice, lists of choices and times under a choice, by the rule that they are asked by. */
+/* Steps from choice to choice and lists of choices, by the rule that they are asked by. */
 #ifndef LISTS_H
 #define LISTS_H
 
 #include "tally.h"
 
-/* Asks for a time, steps, lists and times under a choice, which a refused sheet has to be refused by, whatever place, choice and room are given. */
+/* Asks for a time, steps and lists, which a refused sheet has to be refused by, whatever place, choice and room are given. */
 void check_refused_by(struct comparison *comparison, enum rule rule);
 
 /* Steps from allowed choices and from each kind of choice that is not allowed. */
@@ -12,8 +12,5 @@ void check_steps(struct comparison *comparison, enum rule rule, const struct dra
 
 /* Lists the choices into outputs too long, just long enough and too short, and walks along the list. */
 void check_lists(struct comparison *comparison, struct tally *tally, enum rule rule, const struct draft *draft);
-
-/* Asks for every time under the draft's own choice, under another and under one that is not allowed, with enough room and with too little. */
-void check_times_under(struct comparison *comparison, struct tally *tally, enum rule rule, const struct draft *draft);
 
 #endif

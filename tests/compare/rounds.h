@@ -10,7 +10,7 @@ enum { LONGEST_SMALL = 30, LONGEST_MODEST = 500 };
 /* A round of a kind: draws what is its turn, makes the calls on both sides and adds up what was met. */
 typedef void round_run(struct comparison *comparison, struct tally *tally, uint64_t round);
 
-round_run codec_round, analysis_round, replay_round, lock_round, mend_round, cores_round, release_round, margin_round;
+round_run codec_round, analysis_round, replay_round, lock_round, mend_round, cores_round, release_round;
 
 /* Judges, rewrites and mends sheets of every length. */
 void codec_edge_round(struct comparison *comparison);

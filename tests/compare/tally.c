@@ -57,22 +57,20 @@ static void print_cores(const struct cores_tally *cores)
     printf(", with a record that fits none: %" PRIu64 "\n", cores->too_small);
 }
 
-/* Prints the mix of pairs by one rule. */
-static void print_release(const char *name, const struct release_tally *release)
+/* Prints the mix of pairs. */
+static void print_release(const struct release_tally *release)
 {
-    printf("pairs by the rule of %s sheets: ", name);
-    print_answers("by refusal", release->released);
-    printf("candidates loaded: %" PRIu64 ", in place of a sheet that does not meet the rule: %" PRIu64 ", such as meet it kept out: %" PRIu64 "\n",
-           release->loaded, release->loaded_over_missing, release->kept_from_meeting);
+    print_answers("pairs by refusal of fq_release", release->released);
+    printf("candidates loaded: %" PRIu64 ", in place of a sheet that does not pass: %" PRIu64 ", passing ones kept out: %" PRIu64 "\n",
+           release->loaded, release->loaded_over_late, release->kept_from_passing);
 }
 
 /* Prints the mix of sheets by the assured times. */
 static void print_assured(const struct assured_tally *assured)
 {
     printf("sheets that are assured: %" PRIu64 ", that are not: %" PRIu64 ", that are and do not pass: %" PRIu64
-           ", that pass and are not: %" PRIu64 ", refused as shared: %" PRIu64 "; least intervals: %" PRIu64 ", none: %" PRIu64 "\n",
-           assured->assured, assured->not_assured, assured->assured_only, assured->passing_only, assured->refused, assured->least_intervals,
-           assured->least_intervals_of_none);
+           ", that pass and are not: %" PRIu64 ", refused as shared: %" PRIu64 "\n",
+           assured->assured, assured->not_assured, assured->assured_only, assured->passing_only, assured->refused);
 }
 
 /* Prints the mix of lists by one rule. */
@@ -84,23 +82,6 @@ static void print_lists(const char *name, const struct list_tally *lists)
            lists->choices);
 }
 
-/* Prints the mix of times under a choice by one rule. */
-static void print_choices(const char *name, const struct choice_tally *choices)
-{
-    printf("times under a choice, %s: %" PRIu64 ", not: %" PRIu64 ", refused: %" PRIu64 "\n", name, choices->met, choices->missed,
-           choices->refused);
-}
-
-/* Prints the mix of margins by one rule. */
-static void print_margins(const char *name, const struct margin_tally *margins)
-{
-    printf("margins, %s, of costs: %" PRIu64 ", backups: %" PRIu64 ", deadlines: %" PRIu64 ", periods: %" PRIu64 ", none: %" PRIu64
-           "; factors that grow: %" PRIu64 ", that shrink: %" PRIu64 "\n",
-           name, margins->margins[FQ_MARGIN_COST], margins->margins[FQ_MARGIN_BACKUP], margins->margins[FQ_MARGIN_DEADLINE],
-           margins->margins[FQ_MARGIN_PERIOD], margins->none, margins->growing, margins->shrinking);
-    print_answers("margins by refusal of fq_margin", margins->refused);
-}
-
 /* Prints the closing line. */
 static void print_counts(const struct comparison *comparison, const struct tally *tally)
 {
@@ -109,9 +90,8 @@ static void print_counts(const struct comparison *comparison, const struct tally
            tally->analysis.sheets, tally->analysis.passing, tally->analysis.late);
     printf("%" PRIu64 " least intervals, %" PRIu64 " lists (%" PRIu64 " of eight tasks), ", tally->analysis.least_intervals, lists->all,
            lists->of_eight);
-    printf("%" PRIu64 " logs, %" PRIu64 " requests for locks, %" PRIu64 " sheets typed by hand, %" PRIu64 " boxes, %" PRIu64 " pairs, %" PRIu64
-           " sheets asked for margins, ",
-           tally->replay.logs, tally->locks.requests, tally->mend.typed, tally->cores.boxes, tally->release[PASSING].pairs, tally->margins_asked);
+    printf("%" PRIu64 " logs, %" PRIu64 " requests for locks, %" PRIu64 " sheets typed by hand, %" PRIu64 " boxes, %" PRIu64 " pairs, ",
+           tally->replay.logs, tally->locks.requests, tally->mend.typed, tally->cores.boxes, tally->release.pairs);
     printf("%" PRIu64 " checks, %" PRIu64 " differences\n", comparison->checks, comparison->differences);
 }
 
@@ -123,17 +103,12 @@ void print_tally(const struct comparison *comparison, const struct tally *tally)
     print_locks(&tally->locks);
     print_mend(&tally->mend);
     print_cores(&tally->cores);
-    print_release("passing", &tally->release[PASSING]);
-    print_release("assured", &tally->release[ASSURED]);
+    print_release(&tally->release);
     printf("slacks with a figure: %" PRIu64 ", least intervals of none: %" PRIu64 "\n", tally->analysis.figures,
            tally->analysis.least_intervals_of_none);
     print_assured(&tally->assured);
     print_lists("passing", &tally->lists[PASSING]);
     print_lists("assured", &tally->lists[ASSURED]);
-    print_margins("passing", &tally->margins[PASSING]);
-    print_margins("assured", &tally->margins[ASSURED]);
-    print_choices("passing", &tally->choices[PASSING]);
-    print_choices("assured", &tally->choices[ASSURED]);
     print_counts(comparison, tally);
 }
 
@@ -190,14 +165,14 @@ static bool is_every_box_met(const struct cores_tally *cores)
 static bool is_every_pair_met(const struct release_tally *release)
 {
     return release->released[FQ_DIFFERENT_COUNTS] > 0 && release->released[FQ_BAD_PLACE] > 0 && release->released[0] > release->loaded &&
-           release->loaded_over_missing > 0 && release->kept_from_meeting > 0;
+           release->loaded_over_late > 0 && release->kept_from_passing > 0;
 }
 
 /* Whether sheets that are assured, are not and are refused were met, and such as the other rule judges otherwise. */
 static bool is_every_assured_met(const struct assured_tally *assured)
 {
     return assured->assured > assured->assured_only && assured->assured_only > 0 && assured->not_assured > assured->passing_only &&
-           assured->passing_only > 0 && assured->refused > 0 && assured->least_intervals > 0 && assured->least_intervals_of_none > 0;
+           assured->passing_only > 0 && assured->refused > 0;
 }
 
 /* Whether lists of each kind were met by one rule. */
@@ -207,32 +182,11 @@ static bool is_every_list_met(const struct list_tally *lists)
            lists->with_lowest_late < lists->all && lists->long_partial > 0;
 }
 
-/* Whether times under choices of each kind were met by one rule. */
-static bool is_every_choice_met(const struct choice_tally *choices)
-{
-    return choices->met > 0 && choices->missed > 0 && choices->refused > 0;
-}
-
-/* Whether margins of each field, none, both kinds of factors and both refusals of what is asked were met by one rule. */
-static bool is_every_margin_met(const struct margin_tally *margins)
-{
-    for (unsigned field = FQ_MARGIN_COST; field <= FQ_MARGIN_PERIOD; field++) {
-        if (margins->margins[field] == 0) {
-            return false;
-        }
-    }
-    return margins->none > 0 && margins->growing > 0 && margins->shrinking > 0 && margins->refused[FQ_BAD_PLACE] > 0 &&
-           margins->refused[FQ_BAD_FIELD] > 0;
-}
-
 /* Each kind of round has to have met its own. */
 bool is_every_kind_met(const struct tally *tally)
 {
     return is_every_codec_met(&tally->codec) && is_every_analysis_met(&tally->analysis) && is_every_replay_met(&tally->replay) &&
            is_every_lock_met(&tally->locks) && is_every_mend_met(&tally->mend) && is_every_box_met(&tally->cores) &&
-           is_every_pair_met(&tally->release[PASSING]) && is_every_pair_met(&tally->release[ASSURED]) &&
-           tally->release[ASSURED].released[FQ_SHARED_PROCESSOR] > 0 && is_every_assured_met(&tally->assured) && is_every_list_met(&tally->lists[PASSING]) &&
-           is_every_list_met(&tally->lists[ASSURED]) && is_every_choice_met(&tally->choices[PASSING]) &&
-           is_every_choice_met(&tally->choices[ASSURED]) && is_every_margin_met(&tally->margins[PASSING]) &&
-           is_every_margin_met(&tally->margins[ASSURED]) && tally->margins[ASSURED].refused[FQ_SHARED_PROCESSOR] > 0;
+           is_every_pair_met(&tally->release) && is_every_assured_met(&tally->assured) && is_every_list_met(&tally->lists[PASSING]) &&
+           is_every_list_met(&tally->lists[ASSURED]);
 }

@@ -5,7 +5,7 @@
 #include "checks.h"
 
 /* Room for an answer that is no refusal, and for each refusal by its number. */
-enum { ANSWERS = FQ_BAD_FIELD + 1 };
+enum { ANSWERS = FQ_BAD_REQUEST + 1 };
 
 /* Codec sheets, and the answers of fq_judge to them. */
 struct codec_tally {
@@ -23,15 +23,13 @@ struct analysis_tally {
     uint64_t least_intervals_of_none;
 };
 
-/* Sheets that are assured and that are not, of both those that the other rule judges otherwise, and the shared ones, which are refused; least intervals, and those of none. */
+/* Sheets that are assured and that are not, of both those that the other rule judges otherwise, and the shared ones, which are refused. */
 struct assured_tally {
     uint64_t assured;
     uint64_t not_assured;
     uint64_t assured_only;
     uint64_t passing_only;
     uint64_t refused;
-    uint64_t least_intervals;
-    uint64_t least_intervals_of_none;
 };
 
 /* The lists by one rule; partial ones have some of the choices and not all, long ones of them are of more than four tasks. */
@@ -43,22 +41,6 @@ struct list_tally {
     uint64_t partial;
     uint64_t long_partial;
     uint64_t choices;
-};
-
-/* Times under a random choice by one rule: of choices that meet it and that do not, and refusals of choices that are not allowed. */
-struct choice_tally {
-    uint64_t met;
-    uint64_t missed;
-    uint64_t refused;
-};
-
-/* Margins by one rule: those found of each field, those of none, all by the refusal of fq_margin; factors by which figures can grow, and by which they must shrink. */
-struct margin_tally {
-    uint64_t margins[FQ_MARGIN_PERIOD + 1];
-    uint64_t none;
-    uint64_t refused[ANSWERS];
-    uint64_t growing;
-    uint64_t shrinking;
 };
 
 /* Logs by the answer of fq_replay, and records by the refusal of fq_check: accepted, and with a tick that differs. */
@@ -96,13 +78,13 @@ struct cores_tally {
     uint64_t too_small;
 };
 
-/* Pairs by the refusal of fq_release or fq_assured_release; candidates loaded, those in place of a sheet that does not meet the rule, and those that meet it kept out. */
+/* Pairs by the refusal of fq_release; candidates loaded, those in place of a sheet that does not pass, and passing ones kept out. */
 struct release_tally {
     uint64_t pairs;
     uint64_t released[ANSWERS];
     uint64_t loaded;
-    uint64_t loaded_over_missing;
-    uint64_t kept_from_meeting;
+    uint64_t loaded_over_late;
+    uint64_t kept_from_passing;
 };
 
 /* All of them. */
@@ -111,14 +93,11 @@ struct tally {
     struct analysis_tally analysis;
     struct assured_tally assured;
     struct list_tally lists[RULES];
-    struct choice_tally choices[RULES];
-    struct margin_tally margins[RULES];
-    uint64_t margins_asked;
     struct replay_tally replay;
     struct lock_tally locks;
     struct mend_tally mend;
     struct cores_tally cores;
-    struct release_tally release[RULES];
+    struct release_tally release;
 };
 
 /* The refusal that an answer gives, or 0. */

@@ -3,7 +3,7 @@
  * choices under which every task has a time by it within its deadline.
  */
 #include "plain.h"
-#include "rules.h"
+#include "search.h"
 
 /* Whether the backup of a record is "among i itself, the tasks with q above q of i, and the tasks with q equal to q of i and a priority above p of i". */
 static bool is_among(const struct table *table, size_t place, size_t other)
@@ -41,24 +41,22 @@ static uint64_t assured_length(const struct table *table, size_t place, uint64_t
     return needed + up(length, table->interval) * largest_among(table, place);
 }
 
-/* "the least L", within a limit, or no time. */
-static uint64_t assured_time(const struct table *table, size_t place, uint64_t limit)
+/* "the least L", within the deadline, or no time. */
+static uint64_t assured_time(const struct table *table, size_t place)
 {
-    return least_length(assured_length, table, place, limit);
+    return least_length(assured_length, table, place, table->records[place].deadline);
 }
 
 /* Whether every task has an assured time. */
 static bool is_assured(const struct table *table)
 {
     for (size_t place = 0; place < table->count; place++) {
-        if (assured_time(table, place, table->records[place].deadline) == NO_TIME) {
+        if (assured_time(table, place) == NO_TIME) {
             return false;
         }
     }
     return true;
 }
-
-const struct rule assured_rule = {refused_shared, assured_time, is_assured};
 
 /* The assured time of the record at a place. */
 int64_t plain_assured_response(const uint8_t *sheet, size_t len, size_t place)
@@ -68,11 +66,11 @@ int64_t plain_assured_response(const uint8_t *sheet, size_t len, size_t place)
     if (refusal == 0 && place >= table.count) {
         refusal = -FQ_BAD_PLACE;
     }
-    return refusal != 0 ? refusal : (int64_t)assured_time(&table, place, table.records[place].deadline);
+    return refusal != 0 ? refusal : (int64_t)assured_time(&table, place);
 }
 
 /* Whether the sheet is assured as it stands. */
-int64_t plain_assured_verdict(const uint8_t *sheet, size_t len)
+int64_t plain_is_assured(const uint8_t *sheet, size_t len)
 {
     struct table table;
     int64_t refusal = refused_shared(sheet, len, &table);

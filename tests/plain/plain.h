@@ -19,16 +19,11 @@ int64_t plain_record(const uint8_t *sheet, size_t len, size_t place);
 int64_t plain_response(const uint8_t *sheet, size_t len, size_t place);
 int64_t plain_slack(const uint8_t *sheet, size_t len, size_t place, int32_t *out, size_t out_len);
 int64_t plain_times(const uint8_t *sheet, size_t len, int32_t *out, size_t out_len);
-int64_t plain_choice_times(const uint8_t *sheet, size_t len, uint32_t choice, uint32_t assured, int32_t *out, size_t out_len);
 int64_t plain_verdict(const uint8_t *sheet, size_t len);
 int64_t plain_least_interval(const uint8_t *sheet, size_t len);
-int64_t plain_margin(const uint8_t *sheet, size_t len, size_t place, uint32_t field, uint32_t assured);
-int64_t plain_factor(const uint8_t *sheet, size_t len, uint32_t assured);
 int64_t plain_next(const uint8_t *sheet, size_t len, uint32_t after);
 int64_t plain_list(const uint8_t *sheet, size_t len, uint8_t *out, size_t out_len);
 int64_t plain_assured_response(const uint8_t *sheet, size_t len, size_t place);
-int64_t plain_assured_verdict(const uint8_t *sheet, size_t len);
-int64_t plain_assured_least_interval(const uint8_t *sheet, size_t len);
 int64_t plain_assured_next(const uint8_t *sheet, size_t len, uint32_t after);
 int64_t plain_assured_list(const uint8_t *sheet, size_t len, uint8_t *out, size_t out_len);
 int64_t plain_replay(const uint8_t *sheet, size_t len, const uint8_t *log, size_t log_len, uint64_t *counts,
@@ -42,8 +37,9 @@ int64_t plain_grant(uint32_t period, uint8_t count, const uint32_t *starts, size
                     uint8_t resource, uint32_t length, int64_t *margin, size_t margin_len);
 int64_t plain_release(const uint8_t *in_use, size_t in_use_len, const uint8_t *candidate, size_t candidate_len,
                       uint8_t protected_places);
-int64_t plain_assured_release(const uint8_t *in_use, size_t in_use_len, const uint8_t *candidate, size_t candidate_len,
-                              uint8_t protected_places);
+
+/* Whether the sheet is assured under its own fault priorities: 1, 0, or minus the refusal. */
+int64_t plain_is_assured(const uint8_t *sheet, size_t len);
 
 /* Makes each tick of a supplier's record show what ran; a record that is refused stays as it is. */
 void plain_show(const uint8_t *sheet, size_t len, uint8_t *record, size_t record_len);

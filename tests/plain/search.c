@@ -56,33 +56,21 @@ static uint32_t choice_number(const struct table *table)
     return number;
 }
 
-/* Whether a choice is 0 or allowed. */
-static bool is_allowed(const struct table *table, uint32_t choice)
+/* Whether a walk may go on after a choice. */
+static bool allowed_after(const struct table *table, uint32_t after)
 {
-    if (choice == 0) {
+    if (after == 0) {
         return true;
     }
     for (size_t place = 0; place < table->count; place++) {
-        if (fault_at(choice, place) < 1 || fault_at(choice, place) > table->records[place].priority) {
+        if (fault_at(after, place) < 1 || fault_at(after, place) > table->records[place].priority) {
             return false;
         }
     }
     for (size_t place = table->count; place < FQ_MOST_TASKS; place++) {
-        if (fault_at(choice, place) != 0) {
+        if (fault_at(after, place) != 0) {
             return false;
         }
-    }
-    return true;
-}
-
-/* One that is not allowed changes nothing. */
-bool take_choice(struct table *table, uint32_t choice)
-{
-    if (!is_allowed(table, choice)) {
-        return false;
-    }
-    for (size_t place = 0; choice != 0 && place < table->count; place++) {
-        table->records[place].fault_priority = fault_at(choice, place);
     }
     return true;
 }
@@ -90,7 +78,7 @@ bool take_choice(struct table *table, uint32_t choice)
 /* Tries every choice, those up to the given one included. */
 int64_t search_next(struct table *table, choice_rule *meets, uint32_t after)
 {
-    if (!is_allowed(table, after)) {
+    if (!allowed_after(table, after)) {
         return -FQ_BAD_CHOICE;
     }
     for (uint32_t index = 0; index < choices_of(table); index++) {

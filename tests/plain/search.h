@@ -21,9 +21,6 @@ uint64_t least_length(needed_length *needed, const struct table *table, size_t p
 /* Whether a table meets a rule with the fault priorities that it has. */
 typedef bool choice_rule(const struct table *table);
 
-/* Gives a table the fault priorities of a choice, unless it is 0: whether the choice is allowed. */
-bool take_choice(struct table *table, uint32_t choice);
-
 /* The first choice of all, in order, that stands after the given one and meets the rule, 0 where there is none, or minus the refusal 13. */
 int64_t search_next(struct table *table, choice_rule *meets, uint32_t after);
 

@@ -1,9 +1,9 @@
 /*
- * The plain desk's times, verdicts and choices, straight from the text of the equations. Each is found by trying all
+ * The plain desk's times, verdicts, intervals and choices, straight from the text of the equations. Each is found by trying all
  * candidates in order; nothing is shared with the library, and nothing is clever.
  */
 #include "plain.h"
-#include "rules.h"
+#include "search.h"
 
 /* No record is at this place. */
 enum { NOBODY = FQ_MOST_TASKS };
@@ -86,8 +86,6 @@ static bool passes(const struct table *table)
     return true;
 }
 
-const struct rule published_rule = {refused, response_time, passes};
-
 /* The response time of the record at a place. */
 int64_t plain_response(const uint8_t *sheet, size_t len, size_t place)
 {
@@ -146,6 +144,23 @@ int64_t plain_verdict(const uint8_t *sheet, size_t len)
     struct table table;
     int64_t refusal = refused(sheet, len, &table);
     return refusal != 0 ? refusal : passes(&table);
+}
+
+/* The first interval of all, from 1 up, at which the sheet passes. */
+int64_t plain_least_interval(const uint8_t *sheet, size_t len)
+{
+    struct table table;
+    int64_t refusal = refused(sheet, len, &table);
+    if (refusal != 0) {
+        return refusal;
+    }
+    for (uint32_t interval = 1; interval <= HIGHEST; interval++) {
+        table.interval = interval;
+        if (passes(&table)) {
+            return interval;
+        }
+    }
+    return 0;
 }
 
 /* The first choice of all, in order, that stands after the given one and passes. */

@@ -246,11 +246,8 @@ void answer_mend(struct row *row)
     add_word(row, list);
 }
 
-/* A function that decides between two sheets. */
-typedef int64_t deciding(const uint8_t *in_use, size_t in_use_len, const uint8_t *candidate, size_t candidate_len, uint8_t protected_places);
-
-/* Adds the refusal of a pair, and which of the two is to be loaded. */
-static void add_decision(struct row *row, deciding *decide)
+/* IN-USE CANDIDATE PROTECTED: the refusal, and which of the two is to be loaded. */
+void answer_release(struct row *row)
 {
     static struct bytes in_use, candidate, places;
     read_bytes(row->word[0], &in_use);
@@ -260,26 +257,12 @@ static void add_decision(struct row *row, deciding *decide)
         fprintf(stderr, "not one byte of protected places\n");
         exit(2);
     }
-    int64_t answer = decide(in_use.at, in_use.length, candidate.at, candidate.length, places.at[0]);
+    int64_t answer = fq_release(in_use.at, in_use.length, candidate.at, candidate.length, places.at[0]);
     if (answer < 0) {
         add_number(row, -answer);
     } else {
         add_word(row, answer == 1 ? "0 candidate" : "0 in-use");
     }
-}
-
-/* IN-USE CANDIDATE PROTECTED: the refusal, and which of the two is to be loaded. */
-void answer_release(struct row *row)
-{
-    add_decision(row, fq_release);
-}
-
-/* The same, and the same by the assured times. */
-void answer_assured_release(struct row *row)
-{
-    add_decision(row, fq_release);
-    add_word(row, "assured");
-    add_decision(row, fq_assured_release);
 }
 
 /* Adds a choice as eight digits, or minus the refusal. */
@@ -339,78 +322,4 @@ void answer_assured(struct row *row)
     add_choices(row, list, choices);
     add_word(row, "next");
     add_choice(row, next);
-}
-
-/* Adds a time, or late, and the slack after it, or none. */
-static void add_time(struct row *row, const int32_t *numbers)
-{
-    char time[32] = "late", slack[32] = "none";
-    if (numbers[0] != 0) {
-        snprintf(time, sizeof time, "%" PRId32, numbers[0]);
-    }
-    if (numbers[1] == 1) {
-        snprintf(slack, sizeof slack, "%" PRId32, numbers[2]);
-    }
-    add_word(row, time);
-    strcat(strcat(row->answer, "/"), slack);
-}
-
-/* SHEET CHOICE ASSURED: the refusal, and where there is none whether the choice meets the rule, and each record's time and slack. */
-void answer_choice_times(struct row *row)
-{
-    static struct bytes sheet;
-    int32_t numbers[FQ_TIMES_NUMBERS];
-    read_bytes(row->word[0], &sheet);
-    int64_t answer = fq_choice_times(sheet.at, sheet.length, (uint32_t)strtoul(row->word[1], NULL, 16),
-                                     (uint32_t)strtoul(row->word[2], NULL, 10), numbers, FQ_TIMES_NUMBERS);
-    add_number(row, answer < 0 ? -answer : 0);
-    if (answer < 0) {
-        return;
-    }
-    add_number(row, answer);
-    for (size_t place = 0; place < sheet.at[0] / 16u; place++) {
-        add_time(row, numbers + FQ_TIME_NUMBERS * place);
-    }
-}
-
-/* Adds a margin, none, or minus the refusal, with a separator in front. */
-static void add_margin(struct row *row, int64_t margin, const char *separator)
-{
-    size_t length = strlen(row->answer);
-    if (margin == 0) {
-        snprintf(row->answer + length, ANSWER_ROOM - length, "%snone", separator);
-    } else {
-        snprintf(row->answer + length, ANSWER_ROOM - length, "%s%" PRId64, separator, margin);
-    }
-}
-
-/* SHEET ASSURED: the refusal, and where there is none the factor and each record's margins, cost/backup/deadline/period. */
-void answer_margins(struct row *row)
-{
-    static struct bytes sheet;
-    read_bytes(row->word[0], &sheet);
-    uint32_t assured = (uint32_t)strtoul(row->word[1], NULL, 10);
-    int64_t factor = fq_factor(sheet.at, sheet.length, assured);
-    add_number(row, factor < 0 ? -factor : 0);
-    if (factor < 0) {
-        return;
-    }
-    add_margin(row, factor, " ");
-    for (size_t place = 0; place < sheet.at[0] / 16u; place++) {
-        for (uint32_t field = FQ_MARGIN_COST; field <= FQ_MARGIN_PERIOD; field++) {
-            add_margin(row, fq_margin(sheet.at, sheet.length, place, field, assured), field == FQ_MARGIN_COST ? " " : "/");
-        }
-    }
-}
-
-/* SHEET: the verdict and the least interval, and both by the assured times, each or minus the refusal; none for 0 intervals. */
-void answer_least_intervals(struct row *row)
-{
-    static struct bytes sheet;
-    read_bytes(row->word[0], &sheet);
-    add_number(row, fq_verdict(sheet.at, sheet.length));
-    add_margin(row, fq_least_interval(sheet.at, sheet.length), " ");
-    add_word(row, "assured");
-    add_number(row, fq_assured_verdict(sheet.at, sheet.length));
-    add_margin(row, fq_assured_least_interval(sheet.at, sheet.length), " ");
 }

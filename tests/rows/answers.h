@@ -19,6 +19,6 @@ struct row {
 typedef void answering(struct row *row);
 
 /* Each kind of row, with what its comment in answers.c says is asked. */
-answering answer_replay, answer_run, answer_record, answer_cores, answer_slack, answer_locks, answer_mend, answer_release, answer_assured, answer_choice_times, answer_margins, answer_assured_release, answer_least_intervals;
+answering answer_replay, answer_run, answer_record, answer_cores, answer_slack, answer_locks, answer_mend, answer_release, answer_assured;
 
 #endif

@@ -25,11 +25,7 @@ static const struct kind {
     {"12-runs.txt", 2, answer_run},
     {"13-cores.txt", 2, answer_cores},
     {"14-release.txt", 3, answer_release},
-    {"assured-release.txt", 3, answer_assured_release},
     {"assured.txt", 2, answer_assured},
-    {"choice-times.txt", 3, answer_choice_times},
-    {"least-intervals.txt", 1, answer_least_intervals},
-    {"margins.txt", 2, answer_margins},
     {"slow.txt", 1, answer_slack},
 };
 

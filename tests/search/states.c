@@ -60,7 +60,7 @@ static bool is_passing(const struct sheet *sheet)
 /* Whether the sheet is assured. */
 static bool is_assured(const struct sheet *sheet)
 {
-    return plain_assured_verdict(sheet->bytes, sheet->length) == 1;
+    return plain_is_assured(sheet->bytes, sheet->length) == 1;
 }
 
 /* Whether each fault priority is the task's own priority. */

@@ -1,3 +1,4 @@
 // The published times.
+pub mod interval;
 pub mod response;
 pub mod times;

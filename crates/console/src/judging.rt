@@ -7,7 +7,7 @@ use streams::words::Asked;
 use streams::{endings, words};
 
 // Says where a passing sheet's own choice is not assured. Of a shared processor nothing is assured, and nothing is said.
-fn warn(table: Table) {
+pub fn warn(table: Table) {
     let assured = analysis::assess_by(table, Rule::Assured);
     if (assured.refusal == 0) & !assured.passes {
         explanation::say(
@@ -16,22 +16,14 @@ fn warn(table: Table) {
     }
 }
 
-// Says more of a good sheet that passes, or does not: whether its own choice is assured, and how many of those that pass are.
-pub fn explain(table: Table, passes: bool) {
-    if passes {
-        warn(table);
-    }
-    passing::tell_assured(table);
-}
-
 // Prints the answer to a good sheet.
 fn answer(table: Table, is_explained: bool) -> u8 {
     let assessment = analysis::assess(table);
     let entries = assessment.entries;
     if responses::print(table, entries) {
         if passing::print(table) {
-            if is_explained {
-                explain(table, assessment.passes);
+            if is_explained & assessment.passes {
+                warn(table);
             }
             return endings::of(assessment.passes);
         }

@@ -5,5 +5,4 @@ pub mod output;
 pub mod passing;
 pub mod refusals;
 mod responses;
-pub mod rules;
 pub mod taking;

@@ -1,14 +1,11 @@
-// The passing choices and their number, printed from the library's list, and how many of them are assured.
+// The passing choices and their number, printed from the library's list.
 use crate::output;
 use crate::output::Kept;
-use analysis::{Bounds, Rule};
-use intake::explanation;
-use libc::STDERR_FILENO;
 use report::Name;
 use sheet::Table;
 
 // How many choices a sheet of eight tasks has: no list is longer.
-pub const CHOICES: usize = 40320;
+const CHOICES: usize = 40320;
 
 // The bytes of the longest list, four for each choice.
 pub const ROOM: usize = 161280;
@@ -64,44 +61,4 @@ pub fn print(table: Table) -> bool {
     let mut list = [0u8; ROOM];
     let listing = choices::list(table, &mut list);
     print_list(table.count, &list, listing.entries)
-}
-
-// One for a choice that stays within the bounds of the assured rule, and 0 for any other.
-fn one(bounds: Bounds, choice: [u8; 8]) -> u64 {
-    let verdict = analysis::meets_lent(
-        bounds.refusal,
-        bounds.count,
-        &bounds.priorities,
-        &bounds.backups,
-        &bounds.limits,
-        &choice,
-        Rule::Assured,
-    );
-    if verdict.yes { 1 } else { 0 }
-}
-
-// How many of a list of choices are within such bounds.
-fn count_assured(bounds: Bounds, list: &[u8], entries: usize) -> u64 {
-    let mut count: u64 = 0;
-    let mut number: usize = 0;
-    while number < CHOICES && number < entries {
-        count = std::num::wrapping_add_u64(count, one(bounds, choice(list, number)));
-        number += 1;
-    }
-    count
-}
-
-// Says how many of the choices of a good table that pass are assured, where one passes and the processor is whole.
-pub fn tell_assured(table: Table) {
-    let mut list = [0u8; ROOM];
-    let listing = choices::list(table, &mut list);
-    let bounds = analysis::bounds_of(table, Rule::Assured);
-    if (listing.entries == 0) | (bounds.refusal != 0) {
-        return;
-    }
-    explanation::say(b"desk: of the choices that pass, ");
-    io::print_decimal(STDERR_FILENO, count_assured(bounds, &list, listing.entries));
-    explanation::say(b" of ");
-    io::print_decimal(STDERR_FILENO, listing.entries as u64);
-    explanation::say(b" assured (./desk assured)\n");
 }

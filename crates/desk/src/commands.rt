@@ -1,11 +1,8 @@
 // The commands: which one a word names, and what carries it out.
-use cells::Number;
-use choosing::answering;
-use locking::granting;
-use planning::{comparing, explaining, margining, timing, walking};
+use crate::options;
 use records::{mending, replaying, texts};
+use streams::words;
 use streams::words::Asked;
-use streams::{options, words};
 use verdicts::{assuring, judging, least, placing, releasing};
 
 // The commands, and that a word is none of them.
@@ -18,16 +15,9 @@ enum Command {
     Mend,
     Assured,
     Cores,
-    Choices,
     Release,
     Write,
     Show,
-    Times,
-    Margins,
-    Why,
-    Next,
-    Compare,
-    Grant,
     Nothing,
 }
 
@@ -63,32 +53,6 @@ fn named(word: &[u8]) -> Command {
     if check::same(word, b"show") {
         return Command::Show;
     }
-    planning_named(word)
-}
-
-// The command for who plans a box, or asks for a lock, that a word names.
-fn planning_named(word: &[u8]) -> Command {
-    if check::same(word, b"times") {
-        return Command::Times;
-    }
-    if check::same(word, b"choices") {
-        return Command::Choices;
-    }
-    if check::same(word, b"margins") {
-        return Command::Margins;
-    }
-    if check::same(word, b"why") {
-        return Command::Why;
-    }
-    if check::same(word, b"next") {
-        return Command::Next;
-    }
-    if check::same(word, b"compare") {
-        return Command::Compare;
-    }
-    if check::same(word, b"grant") {
-        return Command::Grant;
-    }
     Command::Nothing
 }
 
@@ -109,41 +73,22 @@ fn carry_out(asked: Asked, unnamed: Asked) -> u8 {
         Command::Mend => mending::run(asked),
         Command::Assured => assuring::run(asked),
         Command::Cores => placing::run(asked),
-        Command::Choices => answering::run(asked),
         Command::Release => releasing::run(asked),
         Command::Write => texts::write(asked),
         Command::Show => texts::show(asked),
-        Command::Times => timing::run(asked),
-        Command::Margins => margining::run(asked),
-        Command::Why => explaining::run(asked),
-        Command::Next => walking::run(asked),
-        Command::Compare => comparing::run(asked),
-        Command::Grant => granting::run(asked),
         Command::Nothing => judging::run_named(unnamed),
     }
 }
 
-// How many of a text's ticks are one, or why the word that says so is no number.
-fn scale(asked: Asked) -> Number {
-    if !options::has(asked, b"--scale") {
-        return cells::number_of(b"1");
-    }
-    let mut word = io::buffer();
-    let length = options::value(asked, b"--scale", &mut word);
-    cells::number_of(&word[..length])
-}
-
 // Carries out the command that stands at a place, after the options.
 pub fn run(first: u8, is_explained: bool) -> u8 {
-    let opened = options::at(first as u16);
-    let mut options = opened.options;
-    let scale = scale(words::asked_with(opened.first, is_explained, options));
-    if scale.refusal != 0 {
+    let read = options::at(first);
+    let options = read.options;
+    if !read.is_good {
         return words::trouble(b"--scale takes a number, how many of the text's ticks are one");
     }
-    options.scale = scale.value;
     carry_out(
-        words::asked_with(opened.second, is_explained, options),
-        words::asked_with(opened.first, is_explained, options),
+        words::asked_with(read.next, is_explained, options),
+        words::asked_with(read.first, is_explained, options),
     )
 }

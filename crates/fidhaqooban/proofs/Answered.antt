@@ -7,7 +7,7 @@ use mathlib.Core.List.{List}
 use native.Mathlib.Decide.{ℕ_discrete}
 use native.Mathlib.Nat.{suc-ne-zero}
 use native.Mathlib.Omega.{arith}
-use borrow.Author.Tests.{eq-eqb, ne_eqb}
+use borrow.Author.Tests.{ne_eqb}
 use lib.Dec.{eqb, ltb}
 use lib.IntN.{ℤ}
 use mir.Val.{bool_byte}
@@ -23,17 +23,16 @@ use Rattle.sheet.proofs.Demands.{read-good, table-good}
 use Rattle.analysis.specs.declared.Entry.{Entry}
 use Rattle.analysis.specs.declared.Timed.{Timed}
 use Rattle.analysis.specs.declared.Assessment.{Assessment}
-use Rattle.analysis.specs.declared.Rule.{Rule}
 use Rattle.analysis.specs.declared.Rule.TheVariants.{Published}
 use Rattle.analysis.specs.declared.Interval.{Interval}
-use Rattle.analysis.specs.Common.Tasks.{own_choice}
+use Rattle.analysis.specs.Published.Response.{passes}
 use Rattle.analysis.specs.Common.Entries.{own_tasks, assessed}
 use Rattle.analysis.specs.Published.Answers.{entry_of, least_interval, least_of, interval_answer}
-use Rattle.analysis.specs.ByRule.{rule_refusal, meets, judged_refusal, place_refusal as asked_refusal, time_by, entry_by, choice_assessment_by, own_assessment_by, least_interval_by, interval_answer_by}
+use Rattle.analysis.specs.ByRule.{rule_refusal, meets, place_refusal as asked_refusal, time_by, entry_by, choice_assessment_by, own_assessment_by}
 use Rattle.analysis.specs.BySheet.{sheet_place_refusal, timed_in, assessed_in}
-use Rattle.analysis.proofs.Laws.ByRule.{own-judged, interval-published}
+use Rattle.analysis.proofs.Laws.ByRule.{own-judged}
 use Rattle.fidhaqooban.specs.Numbers.{answer_of, time_of}
-use Rattle.fidhaqooban.specs.Answers.{ruled_refusal, response_number, verdict_number, interval_answered, interval_number, record_number}
+use Rattle.fidhaqooban.specs.Answers.{response_number, verdict_number, interval_answered, interval_number, record_number}
 
 -- a number that is not 0 is tested so
 pub some : (n : ℕ) → eqb (suc n) 0 ≡ false
@@ -141,30 +140,16 @@ module _ (s : List ℕ) (reading : Reading) (e : reading ≡ read_answer s) (lef
   pub good-table-read : table_refusal (table_of s) ≡ 0
   good-table-read = table-good s (good-read s reading e left)
 
--- by the published equations a sheet is refused for its own rules alone
-pub ruled-published : (s : List ℕ) → ruled_refusal Published s ≡ sheet_refusal s
-unfolding rule_refusal
-ruled-published s = go (ℕ_discrete (sheet_refusal s) 0)
-  where
-    go : Dec (sheet_refusal s ≡ 0) → or_else (sheet_refusal s) (table_refusal (table_of s)) ≡ sheet_refusal s
-    go (yes good) = next-of _ good ∙ table-good s good ∙ sym good
-    go (no broken) = first_of _ _ broken
-
 -- the answers of a sheet that is read, refused or not
 module _ (s : List ℕ) (reading : Reading) (e : reading ≡ read_answer s) where
-  pub interval-by : (rule : Rule) (interval : Interval) → interval ≡ interval_answer_by rule reading.table → interval_answered reading.refusal interval ≡ answer_of (ruled_refusal rule s) (least_interval_by rule (table_of s))
-  unfolding interval_answer_by
-  interval-by rule interval given =
-      ap (interval_answered reading.refusal) given ∙ interval-answered reading.refusal (rule_refusal rule reading.table) (least_interval_by rule reading.table)
-      ∙ asked reading.refusal _ _ _ (λ left.
-      ap (λ (t : Table). answer_of (rule_refusal rule t) (least_interval_by rule t)) (table-read s reading e left)
-      ∙ ap (λ (r : ℕ). answer_of r (least_interval_by rule (table_of s))) (sym (next-of _ (good-read s reading e left))))
-      (λ taken. first-refused s reading e taken _ _)
-
   pub interval-is : (interval : Interval) → interval ≡ interval_answer reading.table → interval_answered reading.refusal interval ≡ interval_number s
-  unfolding interval_number least_interval least_interval_by meets
+  unfolding interval_answer interval_number
   interval-is interval given =
-      interval-by Published interval (given ∙ sym (interval-published reading.table)) ∙ ap (λ (r : ℕ). answer_of r (least_interval_by Published (table_of s))) (ruled-published s)
+      ap (interval_answered reading.refusal) given ∙ interval-answered reading.refusal (table_refusal reading.table) (least_interval reading.table)
+      ∙ asked reading.refusal _ _ _ (λ left.
+      ap (λ (t : Table). answer_of (table_refusal t) (least_interval t)) (table-read s reading e left)
+      ∙ ap (λ (r : ℕ). answer_of r (least_interval (table_of s))) (good-table-read s reading e left ∙ sym (good-read s reading e left)))
+      (λ taken. sheet-refused s reading e taken _)
 
 -- the answers of a sheet that is asked for a place, or for its verdict, out of its bytes
 module _ (s : List ℕ) (place : ℕ) where
@@ -193,24 +178,10 @@ module _ (s : List ℕ) (place : ℕ) where
         ap (λ (r : ℕ). answer_of r (time_of timed.entry.outcome)) place-asked
         ∙ answered (place_refusal s place) _ _ (λ fine. ap (λ (x : Entry). time_of x.outcome) (entry-asked fine))
 
--- the verdict by a rule, out of a sheet's bytes
-pub verdict-by : (rule : Rule) (s : List ℕ) (answer : Assessment) → answer ≡ assessed_in rule s → answer_of answer.refusal (cond answer.passes 1 0) ≡ answer_of (ruled_refusal rule s) (cond (meets rule (own_tasks (table_of s))) 1 0)
-unfolding assessed_in own_assessment_by choice_assessment_by assessed
-verdict-by rule s answer given = ap (λ (a : Assessment). answer_of a.refusal (cond a.passes 1 0)) given ∙ go (ℕ_discrete (sheet_refusal s) 0)
-  where
-    judged : ℕ
-    judged = judged_refusal rule (table_of s) (own_choice (table_of s))
-
-    go : Dec (sheet_refusal s ≡ 0) → answer_of (assessed_in rule s).refusal (cond (assessed_in rule s).passes 1 0) ≡ answer_of (ruled_refusal rule s) (cond (meets rule (own_tasks (table_of s))) 1 0)
-    go (yes good) =
-        simp (eq-eqb (sheet_refusal s) 0 good)
-        (answered judged _ (cond (meets rule (own_tasks (table_of s))) 1 0) (λ none. simp (eq-eqb judged 0 none))
-        ∙ ap (λ (r : ℕ). answer_of r (cond (meets rule (own_tasks (table_of s))) 1 0)) (own-judged rule (table_of s) ∙ sym (next-of _ good)))
-    go (no broken) =
-        simp (ne_eqb (sheet_refusal s) 0 broken)
-        (answered (sheet_refusal s) _ (cond (meets rule (own_tasks (table_of s))) 1 0) (λ none. absurd (broken none))
-        ∙ ap (λ (r : ℕ). answer_of r (cond (meets rule (own_tasks (table_of s))) 1 0)) (sym (first_of _ _ broken)))
-
 pub verdict-is : (s : List ℕ) (answer : Assessment) → answer ≡ assessed_in Published s → answer_of answer.refusal (cond answer.passes 1 0) ≡ verdict_number s
-unfolding verdict_number meets
-verdict-is s answer given = verdict-by Published s answer given ∙ ap (λ (r : ℕ). answer_of r (cond (meets Published (own_tasks (table_of s))) 1 0)) (ruled-published s)
+unfolding assessed_in own_assessment_by choice_assessment_by assessed rule_refusal meets verdict_number
+verdict-is s answer given = ap (λ (a : Assessment). answer_of a.refusal (cond a.passes 1 0)) given ∙ go (ℕ_discrete (sheet_refusal s) 0)
+  where
+    go : Dec (sheet_refusal s ≡ 0) → answer_of (assessed_in Published s).refusal (cond (assessed_in Published s).passes 1 0) ≡ verdict_number s
+    go (yes good) = simp (good, own-judged Published (table_of s), table-good s good)
+    go (no broken) = simp (ne_eqb (sheet_refusal s) 0 broken) (answered (sheet_refusal s) _ _ (λ none. absurd (broken none)))

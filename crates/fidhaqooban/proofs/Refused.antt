@@ -65,7 +65,7 @@ pub record Said (refusal value : ℕ) (answer : ℤ) : Type 0 where
   pub given : refusal ≡ 0 → answer ≡ pos value
 
 -- the definition of an answer says so
-pub said : (refusal value : ℕ) → Said refusal value (answer_of refusal value)
+said : (refusal value : ℕ) → Said refusal value (answer_of refusal value)
 unfolding answer_of
 said refusal value = record { refused = λ broken. simp (ne_eqb refusal 0 broken); given = λ fine. simp (eq-eqb refusal 0 fine) }
 
@@ -146,7 +146,7 @@ module _ (sheet : List ℕ) where
   interval-said = said _ _
 
 -- a number's entries are eight
-pub length-entries : (choice : ℕ) → length (entries_of choice) ≡ 8
+length-entries : (choice : ℕ) → length (entries_of choice) ≡ 8
 unfolding entries_of
 length-entries choice = refl
 

@@ -14,15 +14,10 @@ use Rattle.fidhaqooban.proofs.fq_response.Reads as response
 use Rattle.fidhaqooban.proofs.fq_slack.Reads as slack
 use Rattle.fidhaqooban.proofs.fq_verdict.Reads as verdict
 use Rattle.fidhaqooban.proofs.fq_times.Reads as times
-use Rattle.fidhaqooban.proofs.fq_choice_times.Reads as choice-times
 use Rattle.fidhaqooban.proofs.fq_least_interval.Reads as least-interval
-use Rattle.fidhaqooban.proofs.fq_margin.Reads as margin
-use Rattle.fidhaqooban.proofs.fq_factor.Reads as factor
 use Rattle.fidhaqooban.proofs.fq_next.Reads as next
 use Rattle.fidhaqooban.proofs.fq_list.Reads as list
 use Rattle.fidhaqooban.proofs.fq_assured_response.Reads as assured-response
-use Rattle.fidhaqooban.proofs.fq_assured_verdict.Reads as assured-verdict
-use Rattle.fidhaqooban.proofs.fq_assured_least_interval.Reads as assured-interval
 use Rattle.fidhaqooban.proofs.fq_assured_next.Reads as assured-next
 use Rattle.fidhaqooban.proofs.fq_assured_list.Reads as assured-list
 use Rattle.fidhaqooban.proofs.fq_replay.Reads as replay
@@ -31,7 +26,6 @@ use Rattle.fidhaqooban.proofs.fq_grant.Reads as grant
 use Rattle.fidhaqooban.proofs.fq_mend.Reads as mend
 use Rattle.fidhaqooban.proofs.fq_cores.Reads as cores
 use Rattle.fidhaqooban.proofs.fq_release.Reads as release
-use Rattle.fidhaqooban.proofs.fq_assured_release.Reads as assured-release
 
 pub fq-judge-unique : (κs : Lfts 1) (args : _) (a b : ℕ) (s : _) → judge.Learnt κs args a s → judge.Learnt κs args b s → a ≡ b
 fq-judge-unique κs args a b s = both
@@ -60,17 +54,8 @@ fq-verdict-unique κs args a b s = both
 pub fq-times-unique : (κs : Lfts 2) (args : _) (a b : ℤ) (s u : _) → times.Learnt κs args a s → times.Learnt κs args b u → (a ≡ b) × (s.1.0.now ≡ u.1.0.now)
 fq-times-unique κs args a b s u = both-parts
 
-pub fq-choice-times-unique : (κs : Lfts 2) (args : _) (a b : ℤ) (s u : _) → choice-times.Learnt κs args a s → choice-times.Learnt κs args b u → (a ≡ b) × (s.1.1.1.0.now ≡ u.1.1.1.0.now)
-fq-choice-times-unique κs args a b s u = both-parts
-
 pub fq-least-interval-unique : (κs : Lfts 1) (args : _) (a b : ℤ) (s : _) → least-interval.Learnt κs args a s → least-interval.Learnt κs args b s → a ≡ b
 fq-least-interval-unique κs args a b s = both
-
-pub fq-margin-unique : (κs : Lfts 1) (args : _) (a b : ℤ) (s : _) → margin.Learnt κs args a s → margin.Learnt κs args b s → a ≡ b
-fq-margin-unique κs args a b s = both
-
-pub fq-factor-unique : (κs : Lfts 1) (args : _) (a b : ℤ) (s : _) → factor.Learnt κs args a s → factor.Learnt κs args b s → a ≡ b
-fq-factor-unique κs args a b s = both
 
 pub fq-next-unique : (κs : Lfts 1) (args : _) (a b : ℤ) (s : _) → next.Learnt κs args a s → next.Learnt κs args b s → a ≡ b
 fq-next-unique κs args a b s = both
@@ -80,12 +65,6 @@ fq-list-unique κs args a b s u = both-parts
 
 pub fq-assured-response-unique : (κs : Lfts 1) (args : _) (a b : ℤ) (s : _) → assured-response.Learnt κs args a s → assured-response.Learnt κs args b s → a ≡ b
 fq-assured-response-unique κs args a b s = both
-
-pub fq-assured-verdict-unique : (κs : Lfts 1) (args : _) (a b : ℤ) (s : _) → assured-verdict.Learnt κs args a s → assured-verdict.Learnt κs args b s → a ≡ b
-fq-assured-verdict-unique κs args a b s = both
-
-pub fq-assured-least-interval-unique : (κs : Lfts 1) (args : _) (a b : ℤ) (s : _) → assured-interval.Learnt κs args a s → assured-interval.Learnt κs args b s → a ≡ b
-fq-assured-least-interval-unique κs args a b s = both
 
 pub fq-assured-next-unique : (κs : Lfts 1) (args : _) (a b : ℤ) (s : _) → assured-next.Learnt κs args a s → assured-next.Learnt κs args b s → a ≡ b
 fq-assured-next-unique κs args a b s = both
@@ -111,6 +90,3 @@ fq-cores-unique κs args a b s u = both-parts
 
 pub fq-release-unique : (κs : Lfts 2) (args : _) (a b : ℤ) (s : _) → release.Learnt κs args a s → release.Learnt κs args b s → a ≡ b
 fq-release-unique κs args a b s = both
-
-pub fq-assured-release-unique : (κs : Lfts 2) (args : _) (a b : ℤ) (s : _) → assured-release.Learnt κs args a s → assured-release.Learnt κs args b s → a ≡ b
-fq-assured-release-unique κs args a b s = both

@@ -11,13 +11,7 @@ use Rattle.analysis.specs.Common.Entries.{own_tasks}
 use Rattle.analysis.specs.declared.Interval.{Interval}
 use Rattle.analysis.specs.declared.Interval.TheVariants.{Refused, Least, Nothing}
 use Rattle.analysis.specs.declared.Rule.{Rule}
-use Rattle.analysis.specs.declared.Rule.TheVariants.{Assured}
-use Rattle.analysis.specs.Common.Tasks.{Tasks, tasks_of}
-use Rattle.analysis.specs.ByRule.{meets, rule_refusal, judged_refusal, entry_by, place_refusal as place_refusal_by, least_interval_by}
-use Rattle.margins.specs.declared.Furthest.{Furthest}
-use Rattle.margins.specs.declared.Furthest.TheVariants.{Refused as Unasked, At, Nothing as NoValue}
-use Rattle.margins.specs.declared.changing.Change.TheVariants.{One, All}
-use Rattle.margins.specs.Margins.{margin_of}
+use Rattle.analysis.specs.ByRule.{meets}
 use Rattle.choices.specs.declared.Arrival.{Arrival}
 use Rattle.choices.specs.declared.Arrival.TheVariants.{Found, End, Refused as Stopped}
 use Rattle.choices.specs.Choices.{chosen, passing_of}
@@ -31,12 +25,8 @@ use Rattle.mend.specs.Mended.{mended}
 use Rattle.mend.specs.Changes.{changes_of}
 use Rattle.cores.specs.FirstFit.{fits_none}
 use Rattle.cores.specs.Answers.{box_refusal, cores_of}
-use Rattle.release.specs.Answers.{decision, decision_by}
-use Rattle.fidhaqooban.specs.Numbers.{answer_of, given_table, time_of, figures_of, entry_number, figure_in, entries_of, given_choice, rule_of, field_of, field_refusal, choice_of, count_numbers, changes_numbers}
-
--- what a sheet is refused for under a rule: its own rules, then the rule's
-abbrev pub ruled_refusal : Rule → List ℕ → ℕ
-ruled_refusal rule sheet = or_else (sheet_refusal sheet) (rule_refusal rule (table_of sheet))
+use Rattle.release.specs.Answers.{decision}
+use Rattle.fidhaqooban.specs.Numbers.{answer_of, given_table, time_of, figures_of, entry_number, figure_in, entries_of, choice_of, count_numbers, changes_numbers}
 
 -- `fq_write_shared`: "bytes written"
 unfoldable pub write_shared_number : ℕ → ℕ → ℕ → ℕ → List ℕ → List ℕ → ℤ
@@ -98,30 +88,6 @@ times_number sheet out = answer_of (times_refusal sheet out) (cond (passes (own_
 unfoldable pub times_left : List ℕ → List ℤ → List ℤ
 times_left sheet out = cond (eqb (times_refusal sheet out) 0) (filled_below (λ k. entry_number (entry_of (own_tasks (table_of sheet)) (k / 3)) (k % 3)) (3 * count_of sheet) out) out
 
--- a sheet's tasks under a choice that is given as a number
-abbrev pub tasks_under : List ℕ → ℕ → Tasks
-tasks_under sheet choice = let t = table_of sheet in tasks_of t t.interval (given_choice t choice)
-
--- the refusal of asking for every time under a choice by a rule: the sheet's, then the rule's and 13, then 11, where the output has no room for three numbers for each record
-unfoldable pub times_refusal_by : Rule → List ℕ → ℕ → List ℤ → ℕ
-times_refusal_by rule sheet choice out =
-    or_else (or_else (sheet_refusal sheet) (judged_refusal rule (table_of sheet) (given_choice (table_of sheet) choice))) (cond (ltb (length out) (3 * count_of sheet)) 11 0)
-
--- what is answered: 1 where the choice meets the rule, 0 where not
-unfoldable pub times_number_by : Rule → List ℕ → ℕ → List ℤ → ℤ
-times_number_by rule sheet choice out = answer_of (times_refusal_by rule sheet choice out) (cond (meets rule (tasks_under sheet choice)) 1 0)
-
--- and what it leaves in the output: three numbers for each record and then the numbers as they were, or all as it was
-unfoldable pub times_left_by : Rule → List ℕ → ℕ → List ℤ → List ℤ
-times_left_by rule sheet choice out = cond (eqb (times_refusal_by rule sheet choice out) 0) (filled_below (λ k. entry_number (entry_by rule (tasks_under sheet choice) (k / 3)) (k % 3)) (3 * count_of sheet) out) out
-
--- `fq_choice_times`: "every response (and, asked so, every assured time) of a table under a choice in one answer"
-unfoldable pub choice_times_number : List ℕ → ℕ → ℕ → List ℤ → ℤ
-choice_times_number sheet choice assured out = times_number_by (rule_of assured) sheet choice out
-
-unfoldable pub choice_times_left : List ℕ → ℕ → ℕ → List ℤ → List ℤ
-choice_times_left sheet choice assured out = times_left_by (rule_of assured) sheet choice out
-
 -- `fq_least_interval`: "the interval; 0 none"
 unfoldable pub interval_number : List ℕ → ℤ
 interval_number sheet = answer_of (sheet_refusal sheet) (least_interval (table_of sheet))
@@ -131,24 +97,6 @@ unfoldable pub interval_answered : ℕ → Interval → ℤ
 interval_answered sheet (Refused refusal) = answer_of (or_else sheet refusal) 0
 interval_answered sheet (Least least) = answer_of sheet least
 interval_answered sheet Nothing = answer_of sheet 0
-
--- a margin as a number, after the refusal of its sheet; where its table is not refused, after that of what else was asked
-unfoldable pub furthest_answered : ℕ → ℕ → Furthest → ℤ
-furthest_answered sheet asked (Unasked refusal) = answer_of (or_else sheet refusal) 0
-furthest_answered sheet asked (At value) = answer_of (or_else sheet asked) value
-furthest_answered sheet asked NoValue = answer_of (or_else sheet asked) 0
-
--- the refusal of `fq_margin`: the sheet's, then the rule's and 12, then 26
-unfoldable pub margin_refusal : List ℕ → ℕ → ℕ → ℕ → ℕ
-margin_refusal sheet place field assured = or_else (or_else (sheet_refusal sheet) (place_refusal_by (rule_of assured) (table_of sheet) place)) (field_refusal field)
-
--- `fq_margin`: "the furthest value, 0 for none, or minus the refusal"
-unfoldable pub margin_number : List ℕ → ℕ → ℕ → ℕ → ℤ
-margin_number sheet place field assured = answer_of (margin_refusal sheet place field assured) (margin_of (rule_of assured) (table_of sheet) (One (field_of field) place))
-
--- `fq_factor`: "alike, in thousandths"
-unfoldable pub factor_number : List ℕ → ℕ → ℤ
-factor_number sheet assured = answer_of (ruled_refusal (rule_of assured) sheet) (margin_of (rule_of assured) (table_of sheet) All)
 
 -- the first of some choices as a number, 0 where there is none
 unfoldable pub first_number : List (List ℕ) → ℕ
@@ -196,14 +144,6 @@ list_left sheet out = cond (eqb (sheet_refusal sheet) 0) (list_leaves (table_of 
 -- `fq_assured_response`: the assured time; 0 late; the sheet's refusal, then 19, then 12 for the place
 unfoldable pub assured_number : List ℕ → ℕ → ℤ
 assured_number sheet place = answer_of (or_else (sheet_refusal sheet) (asked_refusal (table_of sheet) place)) (time_of (assured_entry (own_tasks (table_of sheet)) place).outcome)
-
--- `fq_assured_verdict`: 1 where every task has an assured time, 0 where not; the sheet's refusal, then 19
-unfoldable pub assured_verdict_number : List ℕ → ℤ
-assured_verdict_number sheet = answer_of (ruled_refusal Assured sheet) (cond (meets Assured (own_tasks (table_of sheet))) 1 0)
-
--- `fq_assured_least_interval`: the least interval at which every task has one; 0 none
-unfoldable pub assured_interval_number : List ℕ → ℤ
-assured_interval_number sheet = answer_of (ruled_refusal Assured sheet) (least_interval_by Assured (table_of sheet))
 
 -- the refusal of `fq_assured_next`: the sheet's, then 19 and 13
 unfoldable pub assured_next_refusal : List ℕ → ℕ → ℕ
@@ -281,7 +221,3 @@ cores_left sheet number out =
 -- `fq_release`: "1 load the candidate, 0 keep the one in use", or minus the refusal
 unfoldable pub release_number : List ℕ → List ℕ → ℕ → ℤ
 release_number in_use candidate protected = answer_of (decision in_use candidate protected).refusal (cond (decision in_use candidate protected).loads 1 0)
-
--- `fq_assured_release`: the same by the assured times
-unfoldable pub assured_release_number : List ℕ → List ℕ → ℕ → ℤ
-assured_release_number in_use candidate protected = answer_of (decision_by Assured in_use candidate protected).refusal (cond (decision_by Assured in_use candidate protected).loads 1 0)

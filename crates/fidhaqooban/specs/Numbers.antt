@@ -1,5 +1,5 @@
 -- Tables, choices, times, counts, changes and answers as the numbers that pass between C and the desk.
-use Rattle.std.specs.Prelude.{ℕ, ◌+◌, ◌*◌, min, cond, List, [], ◌∷◌, eqb, leb, ℤ, pos, neg_ℤ, length, get_or, set, take, replicate}
+use Rattle.std.specs.Prelude.{ℕ, ◌+◌, ◌*◌, min, cond, List, [], ◌∷◌, eqb, ℤ, pos, neg_ℤ, length, get_or, set, take, replicate}
 use Rattle.places.specs.Places.{joined_below}
 use Rattle.sheet.specs.declared.Record.{Record}
 use Rattle.sheet.specs.declared.Table.{Table}
@@ -8,11 +8,6 @@ use Rattle.sheet.specs.Layout.{room}
 use Rattle.mend.specs.declared.Change.{Change}
 use Rattle.mend.specs.Changes.{field_number, no_change}
 use Rattle.replay.specs.declared.Counts.{Counts}
-use Rattle.analysis.specs.declared.Rule.{Rule}
-use Rattle.analysis.specs.declared.Rule.TheVariants.{Published, Assured}
-use Rattle.analysis.specs.Common.Tasks.{own_choice}
-use Rattle.margins.specs.declared.Field.{Field}
-use Rattle.margins.specs.declared.Field.TheVariants.{Cost, Backup, Deadline, Period}
 use Rattle.analysis.specs.declared.Outcome.{Outcome}
 use Rattle.analysis.specs.declared.Outcome.TheVariants.{OnTime, Late}
 use Rattle.analysis.specs.declared.Entry.{Entry}
@@ -82,22 +77,6 @@ entries_of choice = unpacked (replicate 8 4) choice
 -- the number of a choice
 unfoldable pub choice_of : List ℕ → ℕ
 choice_of entries = packed (replicate 8 4) entries
-
--- the choice that a number stands for beside a table: "a choice of 0 stands for the sheet's own"
-unfoldable pub given_choice : Table → ℕ → List ℕ
-given_choice t choice = cond (eqb choice 0) (own_choice t) (entries_of choice)
-
--- the rule that a number asks for: 0 the published equations, any other the assured equation
-unfoldable pub rule_of : ℕ → Rule
-rule_of assured = cond (eqb assured 0) Published Assured
-
--- the field that a number asks for, in the header's order: cost, backup, deadline, period
-unfoldable pub field_of : ℕ → Field
-field_of field = cond (eqb field 0) Cost (cond (eqb field 1) Backup (cond (eqb field 2) Deadline Period))
-
--- 26, "a field that is none of the four"
-unfoldable pub field_refusal : ℕ → ℕ
-field_refusal field = cond (leb 4 field) 26 0
 
 -- the seven counts in the header's order
 unfoldable pub count_numbers : Counts → List ℕ

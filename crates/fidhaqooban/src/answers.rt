@@ -1,14 +1,13 @@
-// Answers as the numbers of C: refusals, times, intervals, margins, choices.
+// Answers as the numbers of C: refusals, times, intervals, choices.
 ghost use Rattle.std.specs.Prelude.{◌≡◌, ◌<◌, ◌^◌};
 ghost use Rattle.places.specs.Refusals.{or_else};
 ghost use Rattle.choices.specs.declared.Arrival.TheVariants.{Found};
 ghost use Rattle.choices.specs.Stepping.{small};
-ghost use Rattle.fidhaqooban.specs.Answers.{interval_answered, furthest_answered, arrival_answered};
+ghost use Rattle.fidhaqooban.specs.Answers.{interval_answered, arrival_answered};
 ghost use Rattle.fidhaqooban.specs.Numbers.{answer_of, time_of, choice_of};
 
 use analysis::{Interval, Outcome};
 use choices::{Arrival, Stepped};
-use margins::Furthest;
 
 // A refusal with a minus sign, or the value.
 pub fn answer(refusal: u8, value: usize) -> i64
@@ -61,17 +60,6 @@ pub fn interval_of(sheet: u8, interval: Interval) -> i64
         Interval::Refused(refusal) => answer(first(sheet, refusal), 0),
         Interval::Least(least) => answer(sheet, least as usize),
         Interval::Nothing => answer(sheet, 0),
-    }
-}
-
-// A margin as a number, after the refusal of its sheet and before that of what else was asked: 0 where there is none, or the refusal with a minus sign.
-pub fn furthest_of(sheet: u8, asked: u8, furthest: Furthest) -> i64
-    ensures { result ≡ furthest_answered sheet asked furthest }
-{
-    match furthest {
-        Furthest::Refused(refusal) => answer(first(sheet, refusal), 0),
-        Furthest::At(value) => answer(first(sheet, asked), value as usize),
-        Furthest::Nothing => answer(first(sheet, asked), 0),
     }
 }
 

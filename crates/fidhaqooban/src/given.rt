@@ -1,11 +1,9 @@
-// What is given as the numbers of C: tables, choices, rules and fields.
+// What is given as the numbers of C: tables and choices.
 ghost use Rattle.std.specs.Prelude.{◌≡◌, ◌≤◌, ◌<◌};
 ghost use Rattle.sheet.specs.Layout.{count_of};
 ghost use Rattle.sheet.specs.Rules.{sheet_refusal};
-ghost use Rattle.fidhaqooban.specs.Numbers.{number_at, byte_of, given_record, table_from, given_table, entries_of, rule_of, field_of, field_refusal};
+ghost use Rattle.fidhaqooban.specs.Numbers.{number_at, byte_of, given_record, table_from, given_table, entries_of};
 
-use analysis::Rule;
-use margins::Field;
 use sheet::{Record, Table};
 
 // The number at a place, 0 where there is none.
@@ -96,38 +94,4 @@ pub fn entries_of(choice: u32) -> [u8; 8]
         rest = rest / 16;
     }
     entries
-}
-
-// The rule that a number asks for: 0 the published equations, any other the assured one.
-pub fn rule_of(assured: u32) -> Rule
-    ensures { result ≡ rule_of assured }
-{
-    if assured == 0 {
-        Rule::Published
-    } else {
-        Rule::Assured
-    }
-}
-
-// The field that a number asks for; one that is none of the four stands for the last, and is refused by itself.
-pub fn field_of(field: u32) -> Field
-    ensures { result ≡ field_of field }
-{
-    if field == 0 {
-        return Field::Cost;
-    }
-    if field == 1 {
-        return Field::Backup;
-    }
-    if field == 2 {
-        return Field::Deadline;
-    }
-    Field::Period
-}
-
-// The refusal of a field that is none of the four.
-pub fn judge_field(field: u32) -> u8
-    ensures { result ≡ field_refusal field }
-{
-    if 4 <= field { 26 } else { 0 }
 }

@@ -3,7 +3,7 @@
 // zeros, which every call refuses too and leaves an output for as it was; of the two refusals the sheet's is told.
 ghost use Rattle.std.specs.Prelude.{◌≡◌};
 ghost use Rattle.sheet.specs.Rules.{sheet_refusal};
-ghost use Rattle.fidhaqooban.specs.Answers.{write_shared_number, write_shared_left, write_number, write_left, rewrite_number, rewrite_left, record_number, response_number, slack_number, slack_left, verdict_number, times_number, times_left, choice_times_number, choice_times_left, margin_number, factor_number, interval_number, next_number, list_number, list_left, assured_number, assured_verdict_number, assured_interval_number, assured_next_number, assured_list_number, assured_list_left, replay_number, replay_left, check_number, mend_number, mend_left, mend_listed, cores_number, cores_left, release_number, assured_release_number};
+ghost use Rattle.fidhaqooban.specs.Answers.{write_shared_number, write_shared_left, write_number, write_left, rewrite_number, rewrite_left, record_number, response_number, slack_number, slack_left, verdict_number, times_number, times_left, interval_number, next_number, list_number, list_left, assured_number, assured_next_number, assured_list_number, assured_list_left, replay_number, replay_left, check_number, mend_number, mend_left, mend_listed, cores_number, cores_left, release_number};
 ghost use Rattle.fidhaqooban.specs.Locking.{given_request, granting_of, lock_number, lock_left};
 
 use analysis::Rule;
@@ -16,7 +16,6 @@ mod choosing;
 mod given;
 mod locking;
 mod outputs;
-mod timing;
 
 // 0 where the sheet is good, or the refusal.
 #[unsafe(no_mangle)]
@@ -115,16 +114,17 @@ pub extern "C" fn fq_times(sheet: &[u8], out: &mut [i32]) -> i64
     ensures answer { result ≡ times_number sheet.now out.old }
     ensures left { out.new ≡ times_left sheet.now out.old }
 {
-    timing::times_by(sheet, 0, Rule::Published, out)
-}
-
-// The same under a choice, 0 for the sheet's own, by the published equations or, asked so, by the assured one: 1 where the choice meets the rule, 0 where it does not.
-#[unsafe(no_mangle)]
-pub extern "C" fn fq_choice_times(sheet: &[u8], choice: u32, assured: u32, out: &mut [i32]) -> i64
-    ensures answer { result ≡ choice_times_number sheet.now choice assured out.old }
-    ensures left { out.new ≡ choice_times_left sheet.now choice assured out.old }
-{
-    timing::times_by(sheet, choice, given::rule_of(assured), out)
+    let reading = sheet::read(sheet);
+    let table = reading.table;
+    let count = table.count as usize;
+    if out.len() < 3 * count {
+        return answers::answer(11, 0);
+    }
+    let assessed = analysis::assess(table);
+    let entries = assessed.entries;
+    outputs::put_entries(entries, count, out);
+    let refusal = answers::first(reading.refusal, assessed.refusal);
+    answers::answer(refusal, assessed.passes as usize)
 }
 
 // The least interval at which the sheet passes, 0 where there is none.
@@ -134,27 +134,6 @@ pub extern "C" fn fq_least_interval(sheet: &[u8]) -> i64
 {
     let reading = sheet::read(sheet);
     answers::interval_of(reading.refusal, analysis::least_interval(reading.table))
-}
-
-// The furthest value of a field of the record at a place with which the sheet is good and meets the rule, 0 where there is none.
-#[unsafe(no_mangle)]
-pub extern "C" fn fq_margin(sheet: &[u8], place: usize, field: u32, assured: u32) -> i64
-    ensures { result ≡ margin_number sheet.now place field assured }
-{
-    let reading = sheet::read(sheet);
-    let rule = given::rule_of(assured);
-    let furthest = margins::margin(reading.table, place, given::field_of(field), rule);
-    answers::furthest_of(reading.refusal, given::judge_field(field), furthest)
-}
-
-// The largest factor in thousandths by which all costs and backups together can grow, 0 where there is none.
-#[unsafe(no_mangle)]
-pub extern "C" fn fq_factor(sheet: &[u8], assured: u32) -> i64
-    ensures { result ≡ factor_number sheet.now assured }
-{
-    let reading = sheet::read(sheet);
-    let furthest = margins::factor(reading.table, given::rule_of(assured));
-    answers::furthest_of(reading.refusal, 0, furthest)
 }
 
 // The next passing choice after another, 0 at the end.
@@ -183,25 +162,6 @@ pub extern "C" fn fq_assured_response(sheet: &[u8], place: usize) -> i64
     let entry = timed.entry;
     let outcome = entry.outcome;
     answers::answer(timed.refusal, answers::time_of(outcome))
-}
-
-// 1 where every task has an assured time, 0 where one has none.
-#[unsafe(no_mangle)]
-pub extern "C" fn fq_assured_verdict(sheet: &[u8]) -> i64
-    ensures { result ≡ assured_verdict_number sheet.now }
-{
-    let assured = analysis::assess_in(sheet, Rule::Assured);
-    answers::answer(assured.refusal, assured.passes as usize)
-}
-
-// The least interval at which every task has an assured time, 0 where there is none.
-#[unsafe(no_mangle)]
-pub extern "C" fn fq_assured_least_interval(sheet: &[u8]) -> i64
-    ensures { result ≡ assured_interval_number sheet.now }
-{
-    let reading = sheet::read(sheet);
-    let interval = analysis::least_interval_by(reading.table, Rule::Assured);
-    answers::interval_of(reading.refusal, interval)
 }
 
 // The next assured choice after another, 0 at the end.
@@ -345,13 +305,4 @@ pub extern "C" fn fq_release(in_use: &[u8], candidate: &[u8], protected_places: 
 {
     let decision = release::decide(in_use, candidate, protected_places);
     answers::answer(decision.refusal, decision.loads as usize)
-}
-
-// The same by the assured times.
-#[unsafe(no_mangle)]
-pub extern "C" fn fq_assured_release(in_use: &[u8], candidate: &[u8], protected_places: u8) -> i64
-    ensures { result ≡ assured_release_number in_use.now candidate.now protected_places }
-{
-    let assured = release::decide_by(in_use, candidate, protected_places, Rule::Assured);
-    answers::answer(assured.refusal, assured.loads as usize)
 }

@@ -33,8 +33,7 @@ fn say_rule(refusal: u8) {
 // Writes the sentence of a rule that is not a sheet's own.
 fn say_other_rule(refusal: u8) {
     match refusal {
-        12 => say(b"a place is outside 1 to the task count"),
-        13 => say(b"a fault priority of the choice is outside 1 to its task's priority"),
+        12 => say(b"a protected place is above the task count"),
         14 => say(
             b"a log has two bytes for each tick and a record three, and the last tick is cut",
         ),
@@ -42,16 +41,8 @@ fn say_other_rule(refusal: u8) {
         16 => say(b"a release comes sooner than the period T after that task's last"),
         17 => say(b"a fault comes sooner than the fault interval E after the last"),
         19 => say(b"the sheet is for a shared processor, and this is answered of a whole one only"),
-        20 => say(
-            b"the start table is bad, a job is outside the period or overlaps another, or a resource's holder is no user of it",
-        ),
-        21 => say(b"the time of the request lies in a started job"),
-        22 => say(b"the resource is held already"),
         23 => say(b"the number of cores is not 1 to 4"),
         24 => say(b"the sheet in use and the candidate have different task counts"),
-        25 => say(
-            b"the resource is above 7, the length is 0, or the priority is not among the resource's users",
-        ),
         _ => say(b"a rule that this program has no words for"),
     }
 }

@@ -1,4 +1,4 @@
--- The refusal of `decide_by`, and so of `decide`, is given in the order of the rows of specs/Broken.antt. Assumes nothing.
+-- The refusal of `decide` is given in the order of the rows of specs/Broken.antt. Assumes nothing.
 use Prim.Native.Nat.{ℕ, ◌≤◌, ◌<◌}
 use mathlib.Core.Path.{◌≡◌, refl, ap, ◌∙◌}
 use mathlib.Core.Bool.{Bool, true, false, cond, not}
@@ -11,14 +11,13 @@ use Rattle.places.proofs.Tells.{Tells, tells-iff, leb_tells, eqb_tells, not-tell
 use Rattle.places.proofs.Some.{some-tells}
 use Rattle.places.proofs.Order.{Says, says_none, says_row, says-wider, says-joined, in_order}
 use Rattle.sheet.specs.Layout.{table_of}
-use Rattle.sheet.specs.Broken.{WholeNumber}
-use Rattle.sheet.proofs.Order.{sheet-says, whole-positive, whole_says}
-use Rattle.analysis.specs.declared.Rule.{Rule}
-use Rattle.analysis.specs.declared.Rule.TheVariants.{Published, Assured}
+use Rattle.sheet.specs.Rules.{sheet_refusal}
+use Rattle.sheet.specs.Broken.{sheet_rows}
+use Rattle.sheet.proofs.Order.{rule-positive, sheet-says}
 use Rattle.release.specs.Rules.{is_protected, some_outside}
 use Rattle.release.specs.declared.Decision.{Decision}
-use Rattle.release.specs.Answers.{sheet_refusal_by, decision_by}
-use Rattle.release.specs.Broken.{Protected, pair_rows, rows_by, decision_rows, DecisionNumber}
+use Rattle.release.specs.Answers.{decision}
+use Rattle.release.specs.Broken.{Protected, pair_rows, decision_rows, DecisionNumber}
 use Rattle.release.proofs.Decided.{tried, decision-tried}
 
 -- `is_protected` tells that the place's bit is set
@@ -32,7 +31,7 @@ unfolding some_outside
 outside-tells protected count = tells-iff (λ w. (w.0, w.1, w.2.0, w.2.1)) (λ w. (w.0, w.1, (w.2, w.3))) (some-tells (λ place. and-tells (leb_tells count place) (protected-tells protected place)) 8)
 
 number-positive : (r : ℕ) → DecisionNumber r → 0 < r
-number-positive r (inl k) = whole-positive r k
+number-positive r (inl k) = rule-positive r k
 number-positive r (inr (inl e)) = omega arith
 number-positive r (inr (inr e)) = omega arith
 
@@ -45,18 +44,12 @@ tried-refusal true true false e l first second = refl
 tried-refusal true false d e l first second = refl
 tried-refusal false b d e l first second = refl
 
--- what a sheet's refusal under a rule says of the rows that are tried on it
-ruled-says : (rule : Rule) (sheet : List ℕ) → Says WholeNumber (rows_by rule sheet) (sheet_refusal_by rule sheet)
-unfolding rows_by sheet_refusal_by
-ruled-says Published sheet = says-wider (λ r k. inl k) (sheet-says sheet)
-ruled-says Assured sheet = whole_says sheet
-
-module _ (rule : Rule) (in_use candidate : List ℕ) (protected : ℕ) where
-  refusal_is : (decision_by rule in_use candidate protected).refusal
-      ≡ or_else (sheet_refusal_by rule in_use)
-      (or_else (sheet_refusal_by rule candidate) (cond (not (eqb (table_of in_use).count (table_of candidate).count)) 24 (cond (some_outside protected (table_of in_use).count) 12 0)))
+module _ (in_use candidate : List ℕ) (protected : ℕ) where
+  refusal_is : (decision in_use candidate protected).refusal
+      ≡ or_else (sheet_refusal in_use)
+      (or_else (sheet_refusal candidate) (cond (not (eqb (table_of in_use).count (table_of candidate).count)) 24 (cond (some_outside protected (table_of in_use).count) 12 0)))
   unfolding or_else
-  refusal_is = ap (λ (d : Decision). d.refusal) (decision-tried rule in_use candidate protected) ∙ tried-refusal _ _ _ _ _ _ _
+  refusal_is = ap (λ (d : Decision). d.refusal) (decision-tried in_use candidate protected) ∙ tried-refusal _ _ _ _ _ _ _
 
   pair-says : Says DecisionNumber (pair_rows in_use candidate protected) (cond (not (eqb (table_of in_use).count (table_of candidate).count)) 24 (cond (some_outside protected (table_of in_use).count) 12 0))
   unfolding pair_rows
@@ -65,8 +58,8 @@ module _ (rule : Rule) (in_use candidate : List ℕ) (protected : ℕ) where
       says_row (inr (inr refl)) (outside-tells protected (table_of in_use).count) (λ within. says_none))
 
   -- "Refusals, first sheet first: a sheet's, 24 different counts, 12 a protected place outside": the number is given in the order of the rows
-  pub decision-in-order : InOrder DecisionNumber (decision_rows rule in_use candidate protected) (decision_by rule in_use candidate protected).refusal
+  pub decision-in-order : InOrder DecisionNumber (decision_rows in_use candidate protected) (decision in_use candidate protected).refusal
   decision-in-order =
       rw refusal_is
       (in_order number-positive
-      (says-joined number-positive (rows_by rule in_use) (rows_by rule candidate ++ pair_rows in_use candidate protected) (says-wider (λ r k. inl k) (ruled-says rule in_use)) (says-joined number-positive (rows_by rule candidate) (pair_rows in_use candidate protected) (says-wider (λ r k. inl k) (ruled-says rule candidate)) pair-says)))
+      (says-joined number-positive (sheet_rows in_use) (sheet_rows candidate ++ pair_rows in_use candidate protected) (says-wider (λ r k. inl k) (sheet-says in_use)) (says-joined number-positive (sheet_rows candidate) (pair_rows in_use candidate protected) (says-wider (λ r k. inl k) (sheet-says candidate)) pair-says)))

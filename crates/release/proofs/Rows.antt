@@ -1,15 +1,14 @@
--- Cases of the release rule by computation: the bits of the protected places, when a response grows, the release of March, and pairs that the two rules decide differently. Assumes nothing.
-use Prim.Native.Nat.{ℕ, ◌+◌, ◌/◌}
+-- Cases of the release rule by computation: the bits of the protected places, when a response grows, and the release of March. Assumes nothing.
+use Prim.Native.Nat.{ℕ}
 use mathlib.Core.Path.{◌≡◌, refl}
-use mathlib.Core.Bool.{true, false, cond}
+use mathlib.Core.Bool.{true, false}
 use mathlib.Core.List.{List, [], ◌∷◌}
-use lib.Dec.{eqb}
 use Rattle.places.specs.Places.{some_below, filled_below, sum_below, most_below}
 use Rattle.places.specs.Search.{first_from}
 use Rattle.places.specs.Refusals.{or_else, first_below}
 use Rattle.sheet.specs.Packing.{regrouped}
-use Rattle.sheet.specs.Layout.{header_of, count_of, edition_of, interval_of, round_of, share_of, start_of, size_of, part_of, record_from, record_of, sheet_record, record_at, room, table_of, is_whole}
-use Rattle.sheet.specs.Rules.{outside, wrong_share, taken, refusal_of, record_refusal, records_refusal, header_refusal, sheet_refusal, shared_refusal, whole_sheet_refusal}
+use Rattle.sheet.specs.Layout.{header_of, count_of, edition_of, interval_of, round_of, share_of, start_of, size_of, part_of, record_from, record_of, sheet_record, record_at, room, table_of}
+use Rattle.sheet.specs.Rules.{outside, wrong_share, taken, refusal_of, record_refusal, records_refusal, header_refusal, sheet_refusal}
 use Rattle.analysis.specs.declared.Outcome.TheVariants.{OnTime, Late}
 use Rattle.analysis.specs.Common.Rounding.{up}
 use Rattle.analysis.specs.Common.Tasks.{fault_at, own_choice}
@@ -19,12 +18,8 @@ use Rattle.analysis.specs.Common.Supplier.{supplier_of}
 use Rattle.analysis.specs.Common.Search.{least_within}
 use Rattle.analysis.specs.Published.Response.{time_elsewhere, time_itself, response_within, response_time, passes}
 use Rattle.analysis.specs.Common.Entries.{is_late, outcome_of}
-use Rattle.analysis.specs.declared.Rule.TheVariants.{Assured}
-use Rattle.analysis.specs.Assured.Equation.{is_over, is_ahead, backup_ahead, asked_assured, assured_equation}
-use Rattle.analysis.specs.Assured.Time.{assured_within, assured_time, assured}
-use Rattle.analysis.specs.ByRule.{meets, time_by}
 use Rattle.release.specs.Rules.{is_protected, some_outside, grows, outcome_at, grows_at, some_grows}
-use Rattle.release.specs.Answers.{sheet_refusal_by, is_loaded, decided, decision, decision_by}
+use Rattle.release.specs.Answers.{is_loaded, decided, decision}
 
 -- "place 0 lowest"
 pub lowest-first : (is_protected 1 0 ≡ true) × (is_protected 1 7 ≡ false) × (is_protected 128 7 ≡ true) × (is_protected 128 0 ≡ false)
@@ -45,30 +40,5 @@ march backup levels =
 pub release-of-march : (decision (march 1 0x33) (march 40 0x33) 4 ≡ record { refusal = 0; loads = false })
     × (decision (march 1 0x33) (march 40 0x31) 4 ≡ record { refusal = 0; loads = true })
     × (decision (march 1 0x33) (march 40 0x31) 6 ≡ record { refusal = 0; loads = false })
-unfolding march or_else first_below some_below filled_below regrouped header_of count_of edition_of interval_of round_of share_of start_of size_of part_of record_from record_of sheet_record record_at room table_of outside wrong_share taken refusal_of record_refusal records_refusal header_refusal sheet_refusal up sum_below most_below fault_at own_choice others everyone backup_of largest_backup backup_elsewhere backup_from_fault supplier_of is_between asked_elsewhere struck_elsewhere asked_itself struck_itself first_from least_within time_elsewhere time_itself response_within response_time is_late passes outcome_of is_protected some_outside grows outcome_at grows_at some_grows meets time_by sheet_refusal_by is_loaded decided decision_by
+unfolding march or_else first_below some_below filled_below regrouped header_of count_of edition_of interval_of round_of share_of start_of size_of part_of record_from record_of sheet_record record_at room table_of outside wrong_share taken refusal_of record_refusal records_refusal header_refusal sheet_refusal up sum_below most_below fault_at own_choice others everyone backup_of largest_backup backup_elsewhere backup_from_fault supplier_of is_between asked_elsewhere struck_elsewhere asked_itself struck_itself first_from least_within time_elsewhere time_itself response_within response_time is_late passes outcome_of is_protected some_outside grows outcome_at grows_at some_grows is_loaded decided decision
 release-of-march = (refl, refl, refl)
-
--- a task of figures below 256
-unfoldable pub task : ℕ → ℕ → ℕ → ℕ → ℕ → List ℕ → List ℕ
-task cost backup deadline period levels rest = 0 ∷ cost ∷ 0 ∷ backup ∷ 0 ∷ deadline ∷ 0 ∷ period ∷ levels ∷ rest
-
--- three tasks in which C and B, D and T, p and q differ; with q of the third at its p their responses stay within those in use, and an assured time grows
-unfoldable pub lowered : ℕ → ℕ → List ℕ
-lowered interval levels = 0x30 ∷ 0 ∷ interval ∷ task 2 1 54 55 0x11 (task 6 3 27 27 0x31 (task 5 6 33 40 levels []))
-
--- three tasks that do not pass, and are assured
-unfoldable pub assured_only : ℕ → List ℕ
-assured_only round = (0x30 + round / 2) ∷ 0 ∷ 93 ∷ shared round (task 9 3 44 50 0x21 (task 4 5 21 21 0x31 (task 4 7 52 57 0x11 [])))
-  where
-    shared : ℕ → List ℕ → List ℕ
-    shared r rest = cond (eqb r 1) rest (0 ∷ r ∷ 0 ∷ 1 ∷ rest)
-
--- so the one is loaded by the published equations alone and the other by the assured times alone; a shared one these refuse with 19, that in use before the candidate's rules
-pub by-either-rule : (decision (lowered 89 0x21) (lowered 91 0x22) 7 ≡ record { refusal = 0; loads = true })
-    × (decision_by Assured (lowered 89 0x21) (lowered 91 0x22) 7 ≡ record { refusal = 0; loads = false })
-    × (decision (assured_only 1) (assured_only 1) 7 ≡ record { refusal = 0; loads = false })
-    × (decision_by Assured (assured_only 1) (assured_only 1) 7 ≡ record { refusal = 0; loads = true })
-    × (decision (assured_only 2) (lowered 0 0x21) 7 ≡ record { refusal = 5; loads = false })
-    × (decision_by Assured (assured_only 2) (lowered 0 0x21) 7 ≡ record { refusal = 19; loads = false })
-unfolding task lowered assured_only or_else first_below some_below filled_below regrouped header_of count_of edition_of interval_of round_of share_of start_of size_of part_of record_from record_of sheet_record record_at room table_of is_whole outside wrong_share taken refusal_of record_refusal records_refusal header_refusal sheet_refusal shared_refusal whole_sheet_refusal up sum_below most_below fault_at own_choice others everyone backup_of largest_backup backup_elsewhere backup_from_fault supplier_of is_between asked_elsewhere struck_elsewhere asked_itself struck_itself first_from least_within time_elsewhere time_itself response_within response_time is_late passes is_over is_ahead backup_ahead asked_assured assured_equation assured_within assured_time assured outcome_of is_protected some_outside grows outcome_at grows_at some_grows meets time_by sheet_refusal_by is_loaded decided decision_by
-by-either-rule = (refl, refl, refl, refl, refl, refl)

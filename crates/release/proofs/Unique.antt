@@ -14,35 +14,27 @@ use contract.Monad.{Fun, fact}
 use Rattle.sheet.proofs.Unique.{both, SamePart}
 use Rattle.release.specs.declared.Decision.{Decision}
 use Rattle.release.specs.declared.Loading.{Loading}
-use Rattle.release.specs.Answers.{decision, Handed, Loaded}
+use Rattle.release.specs.Answers.{Handed, Loaded}
 use Rattle.release.proofs.decide.Reads as decided
-use Rattle.release.proofs.decide_by.Reads as decided-by
 use Rattle.release.proofs.sheet_to_load.Reads as handed
-use Rattle.release.proofs.sheet_to_load_by.Reads as handed-by
 use Rattle.release.specs.contracts.load as load
 
 pub decide-unique : (κs : Lfts 2) (args : _) (a b : Decision) (s : _) → decided.Learnt κs args a s → decided.Learnt κs args b s → a ≡ b
 decide-unique κs args a b s = both
 
-pub decide-by-unique : (κs : Lfts 2) (args : _) (a b : Decision) (s : _) → decided-by.Learnt κs args a s → decided-by.Learnt κs args b s → a ≡ b
-decide-by-unique κs args a b s = both
-
-same-handed : (in_use candidate : Bor (List ℕ)) (answer : Decision) (a b : Bor (List ℕ)) → Handed in_use candidate answer a → Handed in_use candidate answer b → SamePart a b
-same-handed in_use candidate answer a b p q =
+same-handed : (in_use candidate : Bor (List ℕ)) (protected : ℕ) (a b : Bor (List ℕ)) → Handed in_use candidate protected a → Handed in_use candidate protected b → SamePart a b
+same-handed in_use candidate protected a b p q =
     let place = both p.place q.place in
     record { block = λ i. (place i).0; offset = λ i. (place i).1; size = ap length (both p.content q.content); content = both p.content q.content }
 
 pub sheet-to-load-unique : (κs : Lfts 1) (args : _) (a b : Bor (List ℕ)) (s : _) → handed.Learnt κs args a s → handed.Learnt κs args b s → SamePart a b
 sheet-to-load-unique κs args a b s p q = same-handed _ _ _ a b p q
 
-pub sheet-to-load-by-unique : (κs : Lfts 1) (args : _) (a b : Bor (List ℕ)) (s : _) → handed-by.Learnt κs args a s → handed-by.Learnt κs args b s → SamePart a b
-sheet-to-load-by-unique κs args a b s p q = same-handed _ _ _ a b p q
-
 -- `load`, whose answer holds a reference, is proved by hand and has no reading: in every model the contract's clause is that the answer is `Loaded`
 pub load-says : {M : Type 1} {𝓤 : Ura M} (𝓛 : Logic 𝓤) (mem : Memory → SProp 𝓤) (run : Routine → Fun 𝓤) (κs : Lfts 1) (given : _) (answer : Loading) (left : _)
-    → (load.clauses 𝓛 mem run κs given).ensures tt answer left ≡ fact 𝓤 (Loaded given.0 given.1.0 (decision given.0.now given.1.0.now given.1.1.0) answer)
+    → (load.clauses 𝓛 mem run κs given).ensures tt answer left ≡ fact 𝓤 (Loaded given.0 given.1.0 given.1.1.0 answer)
 load-says 𝓛 mem run κs given answer left = refl
 
 -- which leaves one
-pub load-unique : (in_use candidate : Bor (List ℕ)) (answer : Decision) (a b : Loading) → Loaded in_use candidate answer a → Loaded in_use candidate answer b → (a.refusal ≡ b.refusal) × SamePart a.part b.part
-load-unique in_use candidate answer a b p q = (both p.refusal q.refusal, same-handed in_use candidate answer a.part b.part p.part q.part)
+pub load-unique : (in_use candidate : Bor (List ℕ)) (protected : ℕ) (a b : Loading) → Loaded in_use candidate protected a → Loaded in_use candidate protected b → (a.refusal ≡ b.refusal) × SamePart a.part b.part
+load-unique in_use candidate protected a b p q = (both p.refusal q.refusal, same-handed in_use candidate protected a.part b.part p.part q.part)

@@ -1,13 +1,11 @@
 // The release desk: which of two sheets a box loads, the one in use or a candidate.
-// The candidate is loaded exactly if it passes and no protected task's response grows, or, by the assured rule, if it is assured and no protected task's assured time does; whatever is refused leaves the box as it is.
+// The candidate is loaded exactly if it passes and no protected task's response grows; whatever is refused leaves the box as it is.
 ghost use Rattle.std.specs.Prelude.{◌≡◌};
-ghost use Rattle.release.specs.Answers.{decision, decision_by, Handed, Loaded};
-
-use analysis::Rule;
+ghost use Rattle.release.specs.Answers.{decision, Handed, Loaded};
 
 mod deciding;
 
-// What `decide` and `decide_by` answer: the refusal, or 0 beside whether the candidate is to be loaded.
+// What `decide` answers: the refusal, or 0 beside whether the candidate is to be loaded.
 #[derive(Drop)]
 pub struct Decision {
     pub refusal: u8,
@@ -21,38 +19,26 @@ pub struct Loading<'a> {
     pub part: &'a [u8],
 }
 
-// Whether the candidate is to be loaded in place of the sheet in use by a rule, with the refusal.
-pub fn decide_by(in_use: &[u8], candidate: &[u8], protected: u8, rule: Rule) -> Decision
-    ensures { result ≡ decision_by rule in_use.now candidate.now protected }
-{
-    let old = deciding::read_by(in_use, rule);
-    if old.refusal != 0 {
-        return deciding::refused(old.refusal);
-    }
-    let new = deciding::read_by(candidate, rule);
-    if new.refusal != 0 {
-        return deciding::refused(new.refusal);
-    }
-    deciding::between(old.table, new.table, protected, rule)
-}
-
-// The same by the published equations.
+// Whether the candidate is to be loaded in place of the sheet in use, with the refusal.
 pub fn decide(in_use: &[u8], candidate: &[u8], protected: u8) -> Decision
     ensures { result ≡ decision in_use.now candidate.now protected }
 {
-    decide_by(in_use, candidate, protected, Rule::Published)
+    let old = sheet::read(in_use);
+    if old.refusal != 0 {
+        return deciding::refused(old.refusal);
+    }
+    let new = sheet::read(candidate);
+    if new.refusal != 0 {
+        return deciding::refused(new.refusal);
+    }
+    deciding::between(old.table, new.table, protected)
 }
 
-// The sheet to load by a rule: the whole of one of the two lent sheets, or the empty part at the start of the sheet in use where the call is refused.
-pub fn sheet_to_load_by<'a>(
-    in_use: &'a [u8],
-    candidate: &'a [u8],
-    protected: u8,
-    rule: Rule,
-) -> &'a [u8]
-    ensures { Handed in_use.entry candidate.entry (decision_by rule in_use.now candidate.now protected) result }
+// The sheet to load: the whole of one of the two lent sheets, or the empty part at the start of the sheet in use where the call is refused.
+pub fn sheet_to_load<'a>(in_use: &'a [u8], candidate: &'a [u8], protected: u8) -> &'a [u8]
+    ensures { Handed in_use.entry candidate.entry protected result }
 {
-    let decision = decide_by(in_use, candidate, protected, rule);
+    let decision = decide(in_use, candidate, protected);
     if decision.refusal != 0 {
         return &in_use[..0];
     }
@@ -60,13 +46,6 @@ pub fn sheet_to_load_by<'a>(
         return candidate;
     }
     in_use
-}
-
-// The same by the published equations.
-pub fn sheet_to_load<'a>(in_use: &'a [u8], candidate: &'a [u8], protected: u8) -> &'a [u8]
-    ensures { Handed in_use.entry candidate.entry (decision in_use.now candidate.now protected) result }
-{
-    sheet_to_load_by(in_use, candidate, protected, Rule::Published)
 }
 
 // The refusal by itself.
@@ -78,7 +57,7 @@ fn judge_pair<'a>(in_use: &'a [u8], candidate: &'a [u8], protected: u8) -> u8
 
 // Both at once: the refusal of `decide` beside the part of `sheet_to_load`.
 pub fn load<'a>(in_use: &'a [u8], candidate: &'a [u8], protected: u8) -> Loading<'a>
-    ensures { Loaded in_use.entry candidate.entry (decision in_use.now candidate.now protected) result }
+    ensures { Loaded in_use.entry candidate.entry protected result }
 {
     let refusal = judge_pair(in_use, candidate, protected);
     let part = sheet_to_load(in_use, candidate, protected);

@@ -12,9 +12,10 @@ use lib.ListN.{length, get_or, length-append, get_or-append}
 use lib.Seq.{sets, get_or_at}
 use Rattle.analysis.specs.declared.Entry.{Entry}
 use Rattle.mend.specs.declared.Change.{Change}
+use Rattle.report.specs.declared.Line.{Line}
 use Rattle.report.specs.declared.Name.{Name}
 use Rattle.report.specs.declared.Saying.{Saying}
-use Rattle.report.specs.Pages.{has_room, put_end, put_leaves}
+use Rattle.report.specs.Pages.{text_of, has_room, put_end, put_leaves}
 use Rattle.report.specs.Words.{record_word, text_line_word}
 use Rattle.report.specs.Decimal.{digit, decimal, signed, value_after, value_of}
 use Rattle.report.specs.Texts.{named_text, saying_text, task_text, choice_text, core_text, told_text, change_text, line_change_text, refused_at_text}
@@ -138,12 +139,12 @@ refused-at-held refusal line column narrow lines columns =
     held (refused_at_text refusal line column)
     (simp length-append (omega (arith, length-decimal 2 refusal (omega arith), length-decimal 19 line (omega arith), length-decimal 19 column (omega arith))))
 
--- a text that ends past the output is not put, and its place comes back
-pub put-no-room : (text out : List ℕ) (at : ℕ) → length out < at + length text → (put_end text out at ≡ at) × (put_leaves text out at ≡ out)
+-- `put_line`: a text that ends past the output is not put, and its place comes back
+pub put-no-room : (line : Line) (out : List ℕ) (at : ℕ) → length out < at + length (text_of line) → (put_end line out at ≡ at) × (put_leaves line out at ≡ out)
 unfolding put_end put_leaves has_room
-put-no-room text out at short = simp (lt-leb (at + length text) (length out) short) (refl, refl)
+put-no-room line out at short = simp (lt-leb (at + length (text_of line)) (length out) short) (refl, refl)
 
 -- any other is, and where it ends comes back
-pub put-room : (text out : List ℕ) (at : ℕ) → at + length text ≤ length out → (put_end text out at ≡ at + length text) × (put_leaves text out at ≡ sets out at text)
+pub put-room : (line : Line) (out : List ℕ) (at : ℕ) → at + length (text_of line) ≤ length out → (put_end line out at ≡ at + length (text_of line)) × (put_leaves line out at ≡ sets out at (text_of line))
 unfolding put_end put_leaves has_room
-put-room text out at room = simp (le-leb (at + length text) (length out) room) (refl, refl)
+put-room line out at room = simp (le-leb (at + length (text_of line)) (length out) room) (refl, refl)

@@ -14,13 +14,11 @@ use Rattle.analysis.specs.declared.Slack.{Slack}
 use Rattle.analysis.specs.declared.Slack.TheVariants.{Figure, NoFigure}
 use Rattle.mend.specs.declared.Field.{Field}
 use Rattle.mend.specs.declared.Field.TheVariants.{Length, Deadline, FaultPriority}
-use Rattle.report.specs.declared.Line.{Line}
 use Rattle.report.specs.declared.Name.{Name}
 use Rattle.report.specs.declared.Name.TheVariants.{Interval, Least, End, Refused, Attempts, Backups, Idle, Released, Finished, Missed, Unfinished, Differs, FitsNone}
 use Rattle.report.specs.declared.Saying.{Saying}
 use Rattle.report.specs.declared.Saying.TheVariants.{NoInterval, Accepted, LoadInUse, LoadCandidate}
 use Rattle.report.specs.Texts.{line_of, word_of, saying_text, late_text, outcome_text, entry_text, changed_text}
-use Rattle.report.specs.Pages.{text_of}
 use Rattle.report.proofs.Decimal.{length-decimal}
 use Rattle.report.proofs.Signs.{length-signed}
 
@@ -31,11 +29,6 @@ Held text = take (line_of text).len (line_of text).bytes ≡ text
 pub held : (text : List ℕ) → length text ≤ 88 → Held text
 unfolding line_of
 held text fits = ap (take (length text)) (sets-eq text (replicate 88 0) 0 (omega arith)) ∙ take_at text _ (length text) refl
-
--- so a line of a text that fits has that text
-pub line-text : {line : Line} (text : List ℕ) → line ≡ line_of text → length text ≤ 88 → text_of line ≡ text
-unfolding text_of
-line-text text e fits = ap (λ (l : Line). take l.len l.bytes) e ∙ held text fits
 
 -- a name's word has at most eleven bytes
 pub length-word : (name : Name) → length (word_of name) ≤ 11

@@ -1,4 +1,4 @@
--- A text in an output: its bytes one by one, a line's, and the two answers of the calls that put one. Assumes nothing.
+-- A line's text in an output: its bytes one by one, its size, and the two answers of `put_line`. Assumes nothing.
 use Prim.Native.Nat.{ℕ, ◌+◌, ◌-◌, ◌≤◌, ◌<◌, min}
 use mathlib.Core.Path.{◌≡◌, refl, sym, ap, ◌∙◌}
 use mathlib.Core.Bool.{Bool, true, false}
@@ -7,7 +7,7 @@ use native.Mathlib.Numerals.{add-one}
 use native.Mathlib.Omega.{arith}
 use borrow.Author.Tests.{ltb-true, ltb-false, leb-true, leb-false, le-leb, lt-leb}
 use lib.Dec.{ltb, leb}
-use lib.ListN.{length, get_or, take, set}
+use lib.ListN.{length, get_or, take, set, length-take}
 use lib.Seq.{sets, length-take-le, take-suc, take_all}
 use Rattle.sheet.proofs.Stores.{sets-after}
 use Rattle.report.specs.declared.Line.{Line}
@@ -45,18 +45,25 @@ take_min k n bytes e = go (ltb k n) refl
         let more = ltb-false k n t in
         take_all (min k n) bytes (omega arith) ∙ sym (take_all k bytes (omega arith))
 
--- a line of n bytes: as many of them as its text has are the text
-pub text-taken : (line : Line) (n size : ℕ) → length line.bytes ≡ n → size ≡ min line.len n → take size line.bytes ≡ text_of line
-unfolding text_of
-text-taken line n size long sized = ap (λ (m : ℕ). take m line.bytes) sized ∙ take_min line.len n line.bytes long
+-- a line of n bytes, and how many of them its text has
+module _ (line : Line) (n size : ℕ) (long : length line.bytes ≡ n) (sized : size ≡ min line.len n) where
+  -- the text is that many of the bytes
+  text-taken : take size line.bytes ≡ text_of line
+  unfolding text_of
+  text-taken = ap (λ (m : ℕ). take m line.bytes) sized ∙ take_min line.len n line.bytes long
 
-module _ (text out : List ℕ) (at : ℕ) where
-  -- with room, a text is put
-  pub put-fits : leb (at + length text) (length out) ≡ true → (at + length text ≡ put_end text out at) × (sets out at text ≡ put_leaves text out at)
-  unfolding put_end put_leaves has_room
-  put-fits e = rw e (refl, refl)
+  -- and has that length
+  text-length : size ≡ length (text_of line)
+  unfolding text_of
+  text-length = sized ∙ sym (length-take line.len line.bytes ∙ ap (min line.len) long)
 
-  -- without it, nothing is
-  pub put-nothing : leb (at + length text) (length out) ≡ false → (at ≡ put_end text out at) × (out ≡ put_leaves text out at)
-  unfolding put_end put_leaves has_room
-  put-nothing e = rw e (refl, refl)
+  module _ (out : List ℕ) (at : ℕ) where
+    -- with room, the text is put
+    pub put-fits : leb (at + size) (length out) ≡ true → (at + size ≡ put_end line out at) × (sets out at (take size line.bytes) ≡ put_leaves line out at)
+    unfolding put_end put_leaves has_room
+    put-fits e = rw (text-taken, text-length) (rw (rw text-length at e) (refl, refl))
+
+    -- without it, nothing is
+    pub put-nothing : leb (at + size) (length out) ≡ false → (at ≡ put_end line out at) × (out ≡ put_leaves line out at)
+    unfolding put_end put_leaves has_room
+    put-nothing e = rw (rw text-length at e) (refl, refl)

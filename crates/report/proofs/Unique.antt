@@ -13,10 +13,7 @@ use Rattle.report.proofs.change_line.Reads as change
 use Rattle.report.proofs.line_change_line.Reads as line-change
 use Rattle.report.proofs.refused_at_line.Reads as refused-at
 use Rattle.report.proofs.titled_line.Reads as titled
-use Rattle.report.proofs.put_word.Reads as word
 use Rattle.report.proofs.put_line.Reads as put
-use Rattle.report.proofs.put_number.Reads as number
-use Rattle.report.proofs.put_signed.Reads as signed
 
 pub named-line-unique : (κs : Lfts 0) (args : _) (a b : Line) (s u : _) → named.Learnt κs args a s → named.Learnt κs args b u → a ≡ b
 named-line-unique κs args a b s u = both
@@ -45,15 +42,6 @@ refused-at-line-unique κs args a b s u = both
 pub titled-line-unique : (κs : Lfts 1) (args : _) (a b : Line) (s u : _) → titled.Learnt κs args a s → titled.Learnt κs args b u → a ≡ b
 titled-line-unique κs args a b s u = both
 
--- what is put, and then the output
-pub put-word-unique : (κs : Lfts 2) (args : _) (a b : ℕ) (s u : _) → word.Learnt κs args a s → word.Learnt κs args b u → (a ≡ b) × (s.1.0.now ≡ u.1.0.now)
-put-word-unique κs args a b s u p q = (both p.0 q.0, both p.1 q.1)
-
+-- the output is the second parameter
 pub put-line-unique : (κs : Lfts 1) (args : _) (a b : ℕ) (s u : _) → put.Learnt κs args a s → put.Learnt κs args b u → (a ≡ b) × (s.1.0.now ≡ u.1.0.now)
 put-line-unique κs args a b s u p q = (both p.0 q.0, both p.1 q.1)
-
-pub put-number-unique : (κs : Lfts 1) (args : _) (a b : ℕ) (s u : _) → number.Learnt κs args a s → number.Learnt κs args b u → (a ≡ b) × (s.1.0.now ≡ u.1.0.now)
-put-number-unique κs args a b s u p q = (both p.0 q.0, both p.1 q.1)
-
-pub put-signed-unique : (κs : Lfts 1) (args : _) (a b : ℕ) (s u : _) → signed.Learnt κs args a s → signed.Learnt κs args b u → (a ≡ b) × (s.1.0.now ≡ u.1.0.now)
-put-signed-unique κs args a b s u p q = (both p.0 q.0, both p.1 q.1)

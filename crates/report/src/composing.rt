@@ -4,7 +4,6 @@ ghost use Rattle.report.specs.Words.{space, newline};
 ghost use Rattle.std.specs.Int.Signed.{lt_z};
 ghost use Rattle.report.specs.Decimal.{digit, decimal, signed};
 ghost use Rattle.report.specs.Texts.{line_of, late_text, outcome_text, changed_text, told_text};
-ghost use Rattle.report.specs.Pages.{text_of};
 ghost use Rattle.report.specs.Putting.{Room, put};
 ghost use Rattle.report.specs.Titles.{takes_name, opened_line};
 
@@ -114,20 +113,6 @@ fn with_signed(line: Line, number: i32) -> Line
         return with_number(with_byte(line, b'-'), magnitude(number));
     }
     with_number(line, number as u64)
-}
-
-// A line of a number alone.
-pub fn spelt(number: u64) -> Line
-    ensures { text_of result ≡ decimal number }
-{
-    with_number(begun(b""), number)
-}
-
-// A line of such a number alone.
-pub fn spelt_signed(number: i32) -> Line
-    ensures { text_of result ≡ signed number }
-{
-    with_signed(begun(b""), number)
 }
 
 // The word late, and after it the slack where there is one.

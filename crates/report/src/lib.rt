@@ -1,8 +1,7 @@
-// The program's lines as bytes: one call for each kind of line, which answers any arguments with the whole line and its newline, and calls that put a line, or a piece of one, into an output.
+// The program's lines as bytes: one call for each kind of line, which answers any arguments with the whole line and its newline, and one that puts a line into an output.
 ghost use Rattle.std.specs.Prelude.{◌≡◌};
 ghost use Rattle.report.specs.Texts.{line_of, named_text, saying_text, task_text, choice_text, core_text, change_text, line_change_text, refused_at_text};
-ghost use Rattle.report.specs.Decimal.{decimal, signed};
-ghost use Rattle.report.specs.Pages.{text_of, put_end, put_leaves};
+ghost use Rattle.report.specs.Pages.{put_end, put_leaves};
 ghost use Rattle.report.specs.Titles.{titled_line};
 
 use analysis::Entry;
@@ -149,41 +148,16 @@ pub fn titled_line(line: Line, name: &[u8]) -> Line
     line
 }
 
-// Puts a word into the output from a place on: where it ends, or the place itself where it has no room, and then nothing is put.
-pub fn put_word(word: &[u8], out: &mut [u8], at: usize) -> usize
-    ensures answer { result ≡ put_end word.now out.old at }
-    ensures left { out.new ≡ put_leaves word.now out.old at }
-{
-    let size = word.len();
-    if page::fits(size, out.len(), at) {
-        page::copy(out, at, word);
-        return at + size;
-    }
-    at
-}
-
-// Puts a line's text likewise.
+// Puts a line's text into the output from a place on: where it ends, or the place itself where it has no room, and then nothing is put.
 pub fn put_line(line: Line, out: &mut [u8], at: usize) -> usize
-    ensures answer { result ≡ put_end (text_of line) out.old at }
-    ensures left { out.new ≡ put_leaves (text_of line) out.old at }
+    ensures answer { result ≡ put_end line out.old at }
+    ensures left { out.new ≡ put_leaves line out.old at }
 {
     let bytes = line.bytes;
     let size = page::text_size(line.len);
-    put_word(&bytes[..size], out, at)
-}
-
-// Puts a number in decimal likewise.
-pub fn put_number(number: u64, out: &mut [u8], at: usize) -> usize
-    ensures answer { result ≡ put_end (decimal number) out.old at }
-    ensures left { out.new ≡ put_leaves (decimal number) out.old at }
-{
-    put_line(composing::spelt(number), out, at)
-}
-
-// Puts a number that may be negative likewise, then after a minus sign.
-pub fn put_signed(number: i32, out: &mut [u8], at: usize) -> usize
-    ensures answer { result ≡ put_end (signed number) out.old at }
-    ensures left { out.new ≡ put_leaves (signed number) out.old at }
-{
-    put_line(composing::spelt_signed(number), out, at)
+    if page::fits(size, out.len(), at) {
+        page::copy(out, at, bytes, size);
+        return at + size;
+    }
+    at
 }

@@ -1,11 +1,10 @@
-// A text put into an output: how long it is, whether it has room, and its bytes copied.
-ghost use Rattle.std.specs.Prelude.{◌≡◌, ◌+◌, ◌≤◌, min, leb, length};
+// A line's text put into an output: how long it is, whether it has room, and its bytes copied.
+ghost use Rattle.std.specs.Prelude.{◌≡◌, ◌+◌, ◌≤◌, min, leb, length, take};
 ghost use Rattle.std.proofs.lemmas.List.Edits.{sets};
 
 // How many of eighty-eight bytes are a text, for any length beside them.
 pub fn text_size(len: usize) -> usize
-    ensures answer { result ≡ min len 88 }
-    ensures bounded { result ≤ 88 }
+    ensures { result ≡ min len 88 }
 {
     if len < 88 { len } else { 88 }
 }
@@ -20,14 +19,15 @@ pub fn fits(size: usize, length: usize, at: usize) -> bool
     size <= length - at
 }
 
-// Puts a word's bytes from a place on.
-pub fn copy(out: &mut [u8], at: usize, word: &[u8])
-    requires { at + length word.now ≤ length out.old }
-    ensures { out.new ≡ sets out.old at word.now }
+// Puts the first bytes from a place on.
+pub fn copy(out: &mut [u8], at: usize, bytes: [u8; 88], size: usize)
+    requires within { size ≤ 88 }
+    requires room { at + size ≤ length out.old }
+    ensures { out.new ≡ sets out.old at (take size bytes) }
 {
     let mut place: usize = 0;
-    while place < word.len() {
-        out[at + place] = word[place];
+    while place < size {
+        out[at + place] = bytes[place];
         place += 1;
     }
 }

@@ -1,5 +1,5 @@
 -- The starred rows of document 01, 1 to 8 and 20, as documents 02's requests 2 and 3 have them, and rows in which every field and every term matters, the share of request 6 among them, as one table under one statement, by computation. Assumes nothing.
-use Rattle.std.proofs.Common.{◌≡◌, ℕ, zero, suc, ◌+◌, ◌*◌, List, [], ◌∷◌, ◌++◌, length, pos, neg_ℤ, refl, arith}
+use Rattle.std.proofs.Common.{◌≡◌, ℕ, zero, suc, ◌+◌, ◌*◌, ◌<◌, ◌≤◌, Bool, true, false, List, [], ◌∷◌, ◌++◌, length, pos, neg_ℤ, sym, refl, ◌∙◌, true≢false, arith}
 use Rattle.places.specs.Places.{filled_below, some_below, sum_below, most_below}
 use Rattle.places.specs.Search.{first_from}
 use Rattle.sheet.specs.declared.Table.{Table}
@@ -16,15 +16,11 @@ use Rattle.analysis.specs.Common.Supplier.{supplier_of}
 use Rattle.analysis.specs.Common.Search.{least_within}
 use Rattle.analysis.specs.Published.Response.{time_elsewhere, time_itself, response_within, response_time, passes}
 use Rattle.analysis.specs.Common.Entries.{is_late, outcome_of, slack_of, entry_from, own_tasks}
-use Rattle.analysis.specs.declared.Rule.TheVariants.{Published, Assured}
-use Rattle.analysis.specs.Assured.Equation.{is_over, is_ahead, backup_ahead, asked_assured, assured_equation}
-use Rattle.analysis.specs.Assured.Time.{assured_within, assured_time, assured}
 use Rattle.analysis.specs.Published.Answers.{entry_of, least_interval}
-use Rattle.analysis.specs.ByRule.{meets, least_interval_by}
 use Rattle.analysis.specs.Common.Columns.{priorities_of}
 use Rattle.choices.specs.Choices.{in_row, entries_for, spread, choices_of, sift, chosen, passing_of}
 use Rattle.choices.specs.Order.{before, after_of}
-use Rattle.analysis.proofs.Laws.Interval.{least-next}
+use Rattle.analysis.proofs.Laws.Published.Halving.{passing_kept, halved-found}
 
 -- Sheet A with an interval, and with the last byte of each record, which holds priority and fault priority
 unfoldable pub sheet_a : ℕ → ℕ → ℕ → ℕ → List ℕ
@@ -56,9 +52,21 @@ shared_sheet interval round share records = (length records * 16 + 1) ∷ 0 ∷ 
 unfoldable pub radio : List ℕ
 radio = shared_sheet 43 19 10 (task 2 5 50 82 3 1 ∷ task 7 1 51 87 2 2 ∷ task 5 2 43 51 1 1 ∷ [])
 
--- a sheet in which C and B, D and T differ in each task, and p and q in one
-unfoldable pub spaced : List ℕ
-spaced = sheet 15 (task 2 3 20 22 2 2 ∷ task 2 1 13 16 4 1 ∷ task 2 1 18 22 3 3 ∷ task 3 4 27 39 1 1 ∷ [])
+-- the least interval, where a table passes at one and not at the one before it: passing is kept when the interval grows
+pub least-next : (t : Table) (fails : ℕ) → 1 ≤ fails → fails < 65535 → passes (tasks_of t fails (own_choice t)) ≡ false → passes (tasks_of t (suc fails) (own_choice t)) ≡ true → least_interval t ≡ suc fails
+unfolding least_interval
+least-next t fails some few failing passing =
+    halved-found test 65535 fails (suc fails)
+    (record { apart = (some, omega arith, omega arith); below = λ k low high. go k low high (test k) refl; above = λ h. passing })
+    (omega arith)
+    (omega arith)
+  where
+    test : ℕ → Bool
+    test interval = passes (tasks_of t interval (own_choice t))
+
+    go : (k : ℕ) → 1 ≤ k → k < suc fails → (b : Bool) → test k ≡ b → test k ≡ false
+    go k low high false e = e
+    go k low high true e = absurd (true≢false (sym (passing_kept t (own_choice t) k fails low (omega arith) e) ∙ failing))
 
 -- three entries as a choice
 unfoldable pub choice : ℕ → ℕ → ℕ → List ℕ
@@ -91,7 +99,6 @@ pub data Row : Type 0 where
   listed : List ℕ → List (List ℕ) → Row
   after : List ℕ → List ℕ → List (List ℕ) → Row
   least : List ℕ → ℕ → Row
-  least_assured : List ℕ → ℕ → Row
 
 -- the answer is the one that the definitions give
 abbrev pub Holds : Row → Type 0
@@ -99,7 +106,6 @@ Holds (responses sheet answer) = times sheet ≡ answer
 Holds (listed sheet answer) = passing_of (table_of sheet) ≡ answer
 Holds (after sheet start answer) = after_of start (passing_of (table_of sheet)) ≡ answer
 Holds (least sheet answer) = least_interval (table_of sheet) ≡ answer
-Holds (least_assured sheet answer) = least_interval_by Assured (table_of sheet) ≡ answer
 
 pub data All : List Row → Type 0 where
   none : All []
@@ -141,16 +147,13 @@ rows =
     listed radio (choice 2 1 1 ∷ choice 2 2 1 ∷ choice 3 1 1 ∷ choice 3 2 1 ∷ []) ∷
     after radio (choice 2 2 1) (choice 3 1 1 ∷ choice 3 2 1 ∷ []) ∷
     least radio 48 ∷
-    -- the least interval by the published equations, and by the assured times
-    least spaced 11 ∷
-    least_assured spaced 9 ∷
     []
 
 pub rows-hold : All rows
-unfolding rows times choice sheet_a lone task together sheet shared_sheet radio spaced
+unfolding rows times choice sheet_a lone task together sheet shared_sheet radio
     header_of count_of edition_of interval_of round_of share_of start_of part_of record_from record_of sheet_record record_at room table_of regrouped filled_below some_below
     up sum_below most_below fault_at own_choice others everyone backup_of largest_backup backup_elsewhere backup_from_fault
-    is_between supplier_of asked_elsewhere struck_elsewhere asked_itself struck_itself first_from least_within time_elsewhere time_itself response_within response_time is_late passes is_over is_ahead backup_ahead asked_assured assured_equation assured_within assured_time assured
+    is_between supplier_of asked_elsewhere struck_elsewhere asked_itself struck_itself first_from least_within time_elsewhere time_itself response_within response_time is_late passes
     outcome_of slack_of entry_from entry_of entries_below on_time late_by late_beyond
-    least_interval least_interval_by meets priorities_of in_row entries_for spread choices_of sift chosen passing_of before after_of
-rows-hold = one refl (one refl (one refl (one refl (one refl (one refl (one refl (one refl (one refl (one refl (one refl (one refl (one refl (one refl (one refl (one refl (one refl (one refl (one refl (one refl (one refl (one refl (one refl (one refl (one refl (one refl (one refl (one refl (one (least-next Published (table_of radio) 47 (omega arith) (omega arith) refl refl) (one (least-next Published (table_of spaced) 10 (omega arith) (omega arith) refl refl) (one (least-next Assured (table_of spaced) 8 (omega arith) (omega arith) refl refl) none))))))))))))))))))))))))))))))
+    priorities_of in_row entries_for spread choices_of sift chosen passing_of before after_of
+rows-hold = one refl (one refl (one refl (one refl (one refl (one refl (one refl (one refl (one refl (one refl (one refl (one refl (one refl (one refl (one refl (one refl (one refl (one refl (one refl (one refl (one refl (one refl (one refl (one refl (one refl (one refl (one refl (one refl (one (least-next (table_of radio) 47 (omega arith) (omega arith) refl refl) none))))))))))))))))))))))))))))

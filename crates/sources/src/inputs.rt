@@ -6,10 +6,8 @@ use files::opened::File;
 use intake::sheets;
 use intake::sheets::Given;
 use lines::{Figures, Task};
-use sheet::{Reading, Table};
 use streams::words::Asked;
-use streams::{input, parts, words};
-use supposing::Supposed;
+use streams::{input, words};
 
 // A sheet's bytes, the tasks as its text has them, which have no line and no name where there is none, the file of the text, and whether
 // all was well. What was not is told.
@@ -26,13 +24,6 @@ pub struct Source {
 struct Found {
     figures: Figures,
     file: File,
-    is_good: bool,
-}
-
-// A sheet of bytes with what options set, and whether each of them was good.
-#[derive(Drop)]
-struct Changed {
-    given: Given,
     is_good: bool,
 }
 
@@ -120,15 +111,15 @@ fn understood(asked: Asked, name: &[u8]) -> Found {
     }
 }
 
-// Whether the figures of a text are a sheet at the scale, whose table options may have changed, or need only be mended to be one where that is
-// asked; why they are none is told, and so is what is to be known of an answer.
-fn is_fit(asked: Asked, name: &[u8], figures: Figures, table: Table, is_mended: bool) -> bool {
+// Whether figures are a sheet at the scale, or need only be mended to be one where that is asked; why they are none is told, and so is
+// what is to be known of an answer.
+fn is_fit(asked: Asked, name: &[u8], figures: Figures, is_mended: bool) -> bool {
     let options = asked.options;
-    let refusal = sheet::judge_table(table);
-    if (refusal != 0) & !is_mended {
-        refusals::print(refusal, false);
+    let fitted = text::scaled(figures, options.scale);
+    if (fitted.refusal != 0) & (!is_mended | (30 <= fitted.refusal)) {
+        refusals::print(fitted.refusal, false);
         if !options.is_quiet {
-            tables::print_rule(name, figures, table, refusal);
+            tables::print(name, figures, options.scale, fitted);
         }
         return false;
     }
@@ -141,29 +132,19 @@ fn is_fit(asked: Asked, name: &[u8], figures: Figures, table: Table, is_mended: 
     true
 }
 
-// Whether the figures of a text fit a sheet at the scale; why they do not is told.
-fn is_scaled(asked: Asked, name: &[u8], figures: Figures) -> bool {
-    let options = asked.options;
-    let fitted = text::scaled(figures, options.scale);
-    if fitted.refusal < 30 {
-        return true;
-    }
-    refusals::print(fitted.refusal, false);
-    if !options.is_quiet {
-        tables::print_scaling(name, figures, fitted);
-    }
-    false
-}
-
-// A table with what options set, but for one that is to be mended.
-fn table_as_asked(asked: Asked, table: Table, is_mended: bool) -> Supposed {
+// The sheet of figures at a scale, or their bytes where they are to be mended to be one.
+fn written(figures: Figures, scale: u64, is_mended: bool) -> Given {
+    let table = text::unjudged(figures, scale);
     if is_mended {
-        return Supposed {
-            table,
-            is_good: true,
-        };
+        return packing::packed(table);
     }
-    supposing::as_asked(asked, table)
+    let mut bytes = [0u8; 80];
+    let writing = sheet::write(table, &mut bytes);
+    Given {
+        bytes,
+        length: writing.written,
+        is_read: true,
+    }
 }
 
 // The sheet of the text of a name, or what is to be mended to be one.
@@ -174,69 +155,28 @@ fn of_text(asked: Asked, name: &[u8], is_mended: bool) -> Source {
     if !found.is_good {
         return nothing(file);
     }
-    if !is_scaled(asked, name, figures) {
-        return nothing(file);
-    }
-    let supposed = table_as_asked(
-        asked,
-        text::unjudged(figures, asked.options.scale),
-        is_mended,
-    );
-    let table = supposed.table;
-    if !supposed.is_good {
-        return nothing(file);
-    }
-    if !is_fit(asked, name, figures, table, is_mended) {
+    if !is_fit(asked, name, figures, is_mended) {
         return nothing(file);
     }
     let tasks = figures.tasks;
     Source {
-        given: packing::written(table),
+        given: written(figures, asked.options.scale, is_mended),
         tasks,
         file,
         is_taken: true,
     }
 }
 
-// The table of a sheet of bytes whose header is good, whatever rules its records break.
-fn table_of(given: Given) -> Reading {
-    let bytes = given.bytes;
-    let length = parts::part(given.length, &bytes);
-    sheet::read_unjudged(&bytes[..length])
-}
-
-// A sheet of bytes that was read, with what options set; one that has no table stays as it is.
-fn bytes_as_asked(asked: Asked, given: Given) -> Changed {
-    let reading = table_of(given);
-    if (reading.refusal != 0) | !supposing::is_asked(asked) {
-        return Changed {
-            given,
-            is_good: true,
-        };
-    }
-    let supposed = supposing::as_asked(asked, reading.table);
-    let table = supposed.table;
-    Changed {
-        given: packing::written(table),
-        is_good: supposed.is_good,
-    }
-}
-
 // The sheet of a name's bytes.
-fn of_bytes(asked: Asked, place: usize) -> Source {
-    let read = sheets::read(place);
-    if !read.is_read {
-        return nothing(no_file());
-    }
-    let changed = bytes_as_asked(asked, read);
-    let given = changed.given;
+fn of_bytes(place: usize) -> Source {
+    let given = sheets::read(place);
     let empty = lines::no_reading();
     let tasks = empty.tasks;
     Source {
         given,
         tasks,
         file: no_file(),
-        is_taken: changed.is_good,
+        is_taken: given.is_read,
     }
 }
 
@@ -256,5 +196,5 @@ pub fn sheet_at(asked: Asked, place: usize) -> Source {
         words::trouble(b"--scale is for texts, and a SHEET is bytes");
         return nothing(no_file());
     }
-    of_bytes(asked, place)
+    of_bytes(place)
 }

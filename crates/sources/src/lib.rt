@@ -3,7 +3,7 @@
 mod explaining;
 pub mod inputs;
 mod packing;
-pub mod quoting;
+mod quoting;
 mod scanning;
 mod tables;
 pub mod taking;

@@ -1,4 +1,4 @@
-// The bytes of a table as a sheet has them, whatever rules it breaks: what is to be mended, or is refused, has no other sheet.
+// The bytes of a table as a sheet has them, whatever rules it breaks: what is to be mended has no other sheet.
 use intake::sheets::Given;
 use sheet::{Record, Table};
 
@@ -72,7 +72,7 @@ fn with_records(given: Given, is_whole: bool, count: u8, records: [Record; 8]) -
 }
 
 // The bytes of a table of at most eight records.
-fn packed(table: Table) -> Given {
+pub fn packed(table: Table) -> Given {
     let records = table.records;
     let is_whole = sheet::is_whole(table.round, table.share);
     let empty = Given {
@@ -85,18 +85,4 @@ fn packed(table: Table) -> Given {
     let rounded = with_pair(timed, 3, table.round);
     let shared = with_pair(rounded, 5, table.share);
     with_records(shared, is_whole, table.count, records)
-}
-
-// The sheet of a good table, or the bytes of one that breaks a rule.
-pub fn written(table: Table) -> Given {
-    if sheet::judge_table(table) != 0 {
-        return packed(table);
-    }
-    let mut bytes = [0u8; 80];
-    let writing = sheet::write(table, &mut bytes);
-    Given {
-        bytes,
-        length: writing.written,
-        is_read: true,
-    }
 }

@@ -120,29 +120,18 @@ fn say_too_large(figures: Figures, least: u64) {
     quoting::say_number(figures.count as u64);
 }
 
-// Writes the name of an input.
-fn say_name(input: &[u8]) {
+// Prints why the figures of an input are no sheet at a scale.
+pub fn print(input: &[u8], figures: Figures, scale: u64, fitted: Fitted) {
     say(b"desk: ");
     quoting::say_input(input);
     say(b": ");
-}
-
-// Prints why the figures of an input fit no sheet at a scale.
-pub fn print_scaling(input: &[u8], figures: Figures, fitted: Fitted) {
-    say_name(input);
     let refusal = fitted.refusal;
     match refusal {
         31 => say_too_large(figures, fitted.least),
         45 => say(b"the scale does not divide round and share, which cannot be rounded"),
-        _ => say(b"a scale is 1 at least"),
+        46 => say(b"a scale is 1 at least"),
+        _ => say_rule(figures, text::unjudged(figures, scale), refusal),
     }
-    say(b"\n");
-}
-
-// Prints the rule that the table of an input's figures breaks.
-pub fn print_rule(input: &[u8], figures: Figures, table: Table, refusal: u8) {
-    say_name(input);
-    say_rule(figures, table, refusal);
     say(b"\n");
 }
 

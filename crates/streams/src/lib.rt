@@ -2,8 +2,6 @@
 // written no contract can say; that all of it is safe and ends is proved.
 pub mod endings;
 pub mod input;
-mod lists;
 pub mod numbers;
-pub mod options;
 pub mod parts;
 pub mod words;

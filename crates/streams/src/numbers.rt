@@ -1,6 +1,4 @@
 // Numbers among the words.
-use crate::lists;
-
 // A word as a number: 255 for those above, or that it is none.
 #[derive(Drop)]
 pub enum Parsed {
@@ -8,12 +6,10 @@ pub enum Parsed {
     Nothing,
 }
 
-// At most eight numbers, 255 for those above, and whether the word is nothing but these.
-#[derive(Drop)]
-pub struct Numbers {
-    pub count: u8,
-    pub list: [u8; 8],
-    pub is_good: bool,
+// A number with one more digit, 255 where it is above that.
+fn longer(number: u8, digit: u8) -> u8 {
+    let long = number as u64 * 10 + (digit % 10) as u64;
+    if long < 255 { long as u8 } else { 255 }
 }
 
 // The number that a word of digits spells.
@@ -25,7 +21,7 @@ fn spelt(word: &[u8]) -> Parsed {
         if (byte < b'0') | (b'9' < byte) {
             return Parsed::Nothing;
         }
-        number = lists::longer(number, byte % 16);
+        number = longer(number, byte % 16);
         place += 1;
     }
     if place == 0 {
@@ -39,11 +35,4 @@ pub fn word(place: usize) -> Parsed {
     let mut word = io::buffer();
     let length = os::arg(place, &mut word);
     spelt(&word[..length])
-}
-
-// The numbers that an argument spells, apart by commas.
-pub fn list(place: usize) -> Numbers {
-    let mut word = io::buffer();
-    let length = os::arg(place, &mut word);
-    lists::of(&word[..length])
 }

@@ -5,19 +5,16 @@ ghost use Rattle.streams.specs.Endings.{word_place};
 use crate::endings;
 use libc::STDERR_FILENO;
 
-// The options: the place of the first among the arguments and of what ends them, the same where there are none; whether every sheet is a
-// text, whatever its name, whether nothing is said of it on standard error, and its scale.
+// How a text is read: whether every sheet is one, whatever its name, whether nothing is said of it on standard error, and its scale.
 #[derive(Drop)]
 pub struct Options {
-    pub first: u16,
-    pub end: u16,
     pub is_text: bool,
     pub is_quiet: bool,
     pub scale: u64,
 }
 
 // What the program was asked for beside the command: the place of the first word after it among the arguments, how many words
-// follow, whether a refusal is to be told in words, and the options.
+// follow, whether a refusal is to be told in words, and how a text is read.
 #[derive(Drop)]
 pub struct Asked {
     pub first: u16,
@@ -38,8 +35,6 @@ fn count_from(first: u16) -> usize {
 // What was asked for from a place on, with no options: a text is one by its name, is told of, and is not scaled.
 pub fn asked_from(first: u16, is_explained: bool) -> Asked {
     let options = Options {
-        first: 0,
-        end: 0,
         is_text: false,
         is_quiet: false,
         scale: 1,

@@ -28,7 +28,7 @@ use Rattle.lines.specs.declared.Figures.{Figures}
 use Rattle.lines.specs.declared.Reading.{Reading}
 use Rattle.lines.specs.declared.Understood.{Understood}
 use Rattle.lines.specs.Troubles.{after, no_trouble, no_reading, is_refused}
-use Rattle.cells.specs.Cells.{part_of, turned, cells_of, separator_of}
+use Rattle.cells.specs.Cells.{part_of, turned}
 use Rattle.lines.specs.Answers.{has_mark, unmarked, content_taken, line_taken, no_figures, figures_of, ended_at, answered, answer_at}
 use Rattle.lines.specs.Moved.{unlined_answer}
 use Rattle.lines.proofs.Sound.{Sound, fine, placed, after-some, ended-sound, taken-sound}
@@ -50,7 +50,6 @@ use Rattle.text.proofs.Scales.{up-covers, least-up-is, least-down-is}
 use Rattle.text.proofs.Lines.{Some, some, lines-some, by_lines}
 use Rattle.text.proofs.Regained.{read-nothing}
 use Rattle.text.proofs.Later.{lines-joined, read_all, number_after, answer-joined, after_two, after-lines, answers-alike, self-alike}
-use Rattle.text.proofs.Returned.{is_open_after, Cuts, return-cells, return-separator}
 use Rattle.text.proofs.Called.{Proper}
 use Rattle.text.proofs.Long.{text-long, named-long}
 use Rattle.text.proofs.Sheets.{sheet-wide, sheet-cleared}
@@ -192,10 +191,6 @@ mark-free text plain fits = by_lines (239 ∷ 187 ∷ 191 ∷ text) ∙ go (line
     go : {lines : List (List ℕ)} → Some lines → has_mark (said false (get_or lines 0 [])) ≡ false → length (said false (get_or lines 0 [])) ≤ 509
         → answer_of no_reading 1 (with_first 239 (with_first 187 (with_first 191 lines))) ≡ answer_of no_reading 1 lines
     go (some line lines) p q = mark-answer line p q lines
-
--- "CRLF [is] fine": a carriage return at a line's end, outside quotes, changes neither the separator that is found nor where any cell begins and ends
-pub return-free : {separator : ℕ} → Cuts separator → (line : List ℕ) → is_open_after false line ≡ false → (separator_of (line ++ (13 ∷ [])) ≡ separator_of line) × (cells_of separator (line ++ (13 ∷ [])) ≡ cells_of separator line)
-return-free cuts line closed = (return-separator line, return-cells cuts line closed)
 
 -- "deadlines never grow": the scaled number, times the scale, is at most the number; "costs never shrink below the exact quotient"
 pub scaled-deadline : (n scale : ℕ) → n / scale * scale ≤ n

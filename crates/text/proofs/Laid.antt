@@ -20,10 +20,6 @@ put-more {a} {b} {c} {at} {end} {t} {u} p e q =
       content = q.content ∙ ap (λ (l : List ℕ). sets l end u) p.content ∙ sets-after a t u at end (e ∙ ap (λ (k : ℕ). at + k) (sym p.long));
     }
 
--- the same where the first stands at the start
-pub put_next : {a b c : List ℕ} {end : ℕ} {t u : List ℕ} {n m : ℕ} → Put a 0 t n b → end ≡ n → Put b end u m c → Put a 0 (t ++ u) (n + m) c
-put_next {n = n} p e q = put-more p (e ∙ sym (zero-add n)) q
-
 -- the same text and size in other words
 pub put_as : {a b : List ℕ} {at : ℕ} {t u : List ℕ} {n m : ℕ} → t ≡ u → n ≡ m → Put a at t n b → Put a at u m b
 put_as {a} {b} {at} {t} {u} same size p = record { long = ap length (sym same) ∙ p.long ∙ size; content = p.content ∙ ap (sets a at) same }

@@ -10,7 +10,6 @@ pub mod Unscaled
 pub mod Spelt
 pub mod Regained
 pub mod Later
-pub mod Returned
 pub mod Back
 pub mod Ordered
 pub mod Written

@@ -11,7 +11,6 @@ use lines::{Figures, Reading, Understood};
 use sheet::Table;
 
 mod gathering;
-mod lengths;
 mod naming;
 mod page;
 mod scaling;

@@ -1,11 +1,11 @@
 // A task's name in quotes, and a table's text with its tasks' names put into an output.
-ghost use Rattle.std.specs.Prelude.{◌≡◌, ◌+◌, ◌*◌, ◌≤◌, length};
+ghost use Rattle.std.specs.Prelude.{◌≡◌, ◌+◌, ◌*◌, ◌≤◌, min, length};
 ghost use Rattle.places.specs.Places.{joined_below};
 ghost use Rattle.sheet.specs.Layout.{edition_for};
 ghost use Rattle.text.specs.Named.{with_ink, with_letter, quoted_name, named_row, named_line, named_text, named_size};
 ghost use Rattle.text.specs.Putting.{Put};
 
-use crate::{Quote, lengths, page};
+use crate::{Quote, page};
 use cells::Name;
 use sheet::{Record, Table};
 
@@ -44,12 +44,20 @@ fn with_letter(quote: Quote, byte: u8) -> Quote
     with_ink(quote, byte)
 }
 
+// The lesser of two lengths.
+fn least(a: usize, b: usize) -> usize
+    ensures value { result ≡ min a b }
+    ensures under { result ≤ b }
+{
+    if a < b { a } else { b }
+}
+
 // A name in quotes, blanks after it.
 fn quoted(name: Name) -> Quote
     ensures { result ≡ quoted_name name }
 {
     let bytes = name.bytes;
-    let count = lengths::least(name.length as usize, 32);
+    let count = least(name.length as usize, 32);
     let room = Quote {
         at: 0,
         bytes: [b' '; 66],
@@ -93,7 +101,9 @@ pub fn put_table(out: &mut [u8], table: Table, names: [Name; 8])
     ensures { Put out.old 0 (named_text table names) (named_size table) out.new }
 {
     let records = table.records;
-    let end = page::put_settings(out, table.interval, table.round, table.share);
+    page::put(out, 0, b"# interval\n");
+    let end = page::put_row(out, 11, [table.interval, 0, 0, 0, 0, 0], 1);
+    let end = page::put_share(out, end, table.round, table.share);
     page::put(
         out,
         end,

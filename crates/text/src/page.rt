@@ -1,9 +1,9 @@
 // A table's text put into an output: names, numbers in columns, lines.
-ghost use Rattle.std.specs.Prelude.{◌≡◌, ◌++◌, ◌+◌, ◌*◌, ◌≤◌, ◌<◌, length, get_or};
+ghost use Rattle.std.specs.Prelude.{◌≡◌, ◌+◌, ◌*◌, ◌≤◌, ◌<◌, length, get_or};
 ghost use Rattle.places.specs.Places.{joined_below};
 ghost use Rattle.sheet.specs.Layout.{edition_for};
 ghost use Rattle.report.specs.Decimal.{decimal};
-ghost use Rattle.text.specs.Shown.{widths, column_at, padded, row_text, task_numbers, interval_text, share_text, task_text, shown_text, text_size};
+ghost use Rattle.text.specs.Shown.{widths, column_at, padded, row_text, task_numbers, share_text, task_text, shown_text, text_size};
 ghost use Rattle.text.specs.Putting.{Put};
 
 use sheet::{Record, Table};
@@ -78,19 +78,16 @@ pub fn put_row(out: &mut [u8], at: usize, numbers: [u16; 6], count: usize) -> us
     end + 1
 }
 
-// Puts the lines of the interval, and of round and share where the processor is not whole, at the start of an output, and says where they
-// end.
-pub fn put_settings(out: &mut [u8], interval: u16, round: u16, share: u16) -> usize
-    requires { 91 ≤ length out.old }
-    ensures { (result ≡ 22 + 36 * edition_for round share) × Put out.old 0 (interval_text interval ++ share_text round share) (22 + 36 * edition_for round share) out.new }
+// Puts the lines of round and share, where there are any, and says where they end.
+pub fn put_share(out: &mut [u8], at: usize, round: u16, share: u16) -> usize
+    requires { at + 69 ≤ length out.old }
+    ensures { (result ≡ at + 36 * edition_for round share) × Put out.old at (share_text round share) (36 * edition_for round share) out.new }
 {
-    put(out, 0, b"# interval\n");
-    let end = put_row(out, 11, [interval, 0, 0, 0, 0, 0], 1);
     if (round == 1) & (share == 1) {
-        return end;
+        return at;
     }
-    put(out, end, b"#    round  share\n");
-    put_row(out, end + 18, [round, share, 0, 0, 0, 0], 2)
+    put(out, at, b"#    round  share\n");
+    put_row(out, at + 18, [round, share, 0, 0, 0, 0], 2)
 }
 
 // A task's numbers in the order of their columns.
@@ -126,7 +123,9 @@ pub fn put_table(out: &mut [u8], table: Table)
     ensures { Put out.old 0 (shown_text table) (text_size table) out.new }
 {
     let records = table.records;
-    let end = put_settings(out, table.interval, table.round, table.share);
+    put(out, 0, b"# interval\n");
+    let end = put_row(out, 11, [table.interval, 0, 0, 0, 0, 0], 1);
+    let end = put_share(out, end, table.round, table.share);
     put(
         out,
         end,

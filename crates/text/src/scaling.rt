@@ -3,9 +3,18 @@ ghost use Rattle.std.specs.Prelude.{◌≡◌, ◌<◌, ◌≤◌, ◌/◌, min,
 ghost use Rattle.sheet.specs.Layout.{no_record, no_table};
 ghost use Rattle.text.specs.Scaling.{up, least_up, least_down, least_of, is_high, least_first, least_below, high_below, least_scale, scaled_task, records_below, share_scale, scaled_table, divides, not_scaled, judged, scaled_fit, scaled_by};
 
-use crate::{Fitted, lengths};
+use crate::Fitted;
 use lines::{Figures, Task};
 use sheet::{Record, Table};
+
+// The lesser of two lengths.
+fn least(a: usize, b: usize) -> usize
+    ensures value { result ≡ min a b }
+    ensures under { result ≤ b }
+    ensures within { result ≤ a }
+{
+    if a < b { a } else { b }
+}
 
 // The greater of two scales.
 fn most(a: u64, b: u64) -> u64
@@ -97,7 +106,7 @@ fn high_below(tasks: [Task; 8], count: usize) -> bool
 fn least_scale(figures: Figures) -> u64
     ensures { result ≡ least_scale figures }
 {
-    let count = lengths::least(figures.count as usize, 8);
+    let count = least(figures.count as usize, 8);
     let tasks = figures.tasks;
     if high_below(tasks, count) {
         return 0;
@@ -181,7 +190,7 @@ pub fn scaled_table(figures: Figures, scale: u64) -> Table
     requires { 0 < scale }
     ensures { result ≡ scaled_table figures scale }
 {
-    let count = lengths::least(figures.count as usize, 8);
+    let count = least(figures.count as usize, 8);
     let tasks = figures.tasks;
     let shared = share_scale(figures, scale);
     Table {

@@ -1,6 +1,6 @@
-// `interval`: the least fault interval at which a sheet passes, or is assured.
+// `interval`: the least fault interval at which a sheet passes.
 use analysis::Interval;
-use console::{output, refusals, rules};
+use console::{output, refusals};
 use report::{Name, Saying};
 use sheet::Table;
 use sources::taking;
@@ -8,9 +8,9 @@ use streams::words::Asked;
 use streams::{endings, words};
 
 // Prints the answer to a good sheet.
-fn answer(asked: Asked, table: Table) -> u8 {
-    match analysis::least_interval_by(table, rules::asked_for(asked)) {
-        Interval::Refused(refusal) => refusals::print(refusal, asked.is_explained),
+fn answer(table: Table, is_explained: bool) -> u8 {
+    match analysis::least_interval(table) {
+        Interval::Refused(refusal) => refusals::print(refusal, is_explained),
         Interval::Least(interval) => output::line(
             report::named_line(Name::Least, interval as u64),
             endings::HOLDS,
@@ -29,5 +29,5 @@ pub fn run(asked: Asked) -> u8 {
         return endings::TROUBLE;
     }
     let table = taken.table;
-    answer(asked, table)
+    answer(table, asked.is_explained)
 }

@@ -1,6 +1,5 @@
 // `release`: which of two sheets a box loads.
-use analysis::Rule;
-use console::{output, refusals, rules};
+use console::{output, refusals};
 use intake::sheets;
 use intake::sheets::Given;
 use release::Decision;
@@ -8,7 +7,7 @@ use report::Saying;
 use sources::inputs;
 use streams::numbers::Parsed;
 use streams::words::Asked;
-use streams::{endings, input, numbers, options, parts, words};
+use streams::{endings, input, numbers, parts, words};
 
 // The protected places as bits, or that a word is none of them.
 #[derive(Drop)]
@@ -56,12 +55,12 @@ fn places(asked: Asked) -> Protected {
 }
 
 // What the release desk decides.
-fn decision(in_use: Given, candidate: Given, protected: u8, rule: Rule) -> Decision {
+fn decision(in_use: Given, candidate: Given, protected: u8) -> Decision {
     let old = in_use.bytes;
     let new = candidate.bytes;
     let old_length = parts::part(in_use.length, &old);
     let new_length = parts::part(candidate.length, &new);
-    release::decide_by(&old[..old_length], &new[..new_length], protected, rule)
+    release::decide(&old[..old_length], &new[..new_length], protected)
 }
 
 // Prints the refusal of one of the sheets, or of both together.
@@ -78,10 +77,10 @@ fn refused(in_use: Given, candidate: Given, refusal: u8, is_explained: bool) -> 
 }
 
 // Prints the answer to two sheets.
-fn answer(asked: Asked, in_use: Given, candidate: Given, protected: u8) -> u8 {
-    let decision = decision(in_use, candidate, protected, rules::asked_for(asked));
+fn answer(in_use: Given, candidate: Given, protected: u8, is_explained: bool) -> u8 {
+    let decision = decision(in_use, candidate, protected);
     if decision.refusal != 0 {
-        return refused(in_use, candidate, decision.refusal, asked.is_explained);
+        return refused(in_use, candidate, decision.refusal, is_explained);
     }
     if decision.loads {
         return output::line(report::saying_line(Saying::LoadCandidate), endings::HOLDS);
@@ -89,9 +88,9 @@ fn answer(asked: Asked, in_use: Given, candidate: Given, protected: u8) -> u8 {
     output::line(report::saying_line(Saying::LoadInUse), endings::FAILS)
 }
 
-// Decides between the sheets that the first two words name; what options set is set in the candidate.
+// Decides between the sheets that the first two words name.
 fn between(asked: Asked, protected: u8) -> u8 {
-    let first = inputs::sheet_at(options::unset(asked), words::at(asked, 0));
+    let first = inputs::sheet_at(asked, words::at(asked, 0));
     if !first.is_taken {
         return endings::TROUBLE;
     }
@@ -101,7 +100,7 @@ fn between(asked: Asked, protected: u8) -> u8 {
     }
     let in_use = first.given;
     let candidate = second.given;
-    answer(asked, in_use, candidate, protected)
+    answer(in_use, candidate, protected, asked.is_explained)
 }
 
 // The same, where the words after them are places.

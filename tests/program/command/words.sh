@@ -49,7 +49,7 @@ ended 'a double dash' 1 "$a_out" ''
 desk --help
 [ "$status" -eq 0 ] && cmp -s "$work/printed" tools/help.txt
 settle '--help' $?
-for word in judge interval replay check mend assured times margins next compare cores release grant write show help install uninstall; do
+for word in judge interval replay check mend assured cores release write show help install uninstall; do
     desk help "$word"
     [ "$status" -eq 0 ] && grep -q "^./desk \[*$word" "$work/printed" && grep -q "^## .*$word\|^. ../desk .*$word" docs/COMMANDS.md
     settle "help $word, and its part of docs/COMMANDS.md" $?

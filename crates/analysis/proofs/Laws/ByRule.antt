@@ -22,8 +22,8 @@ use Rattle.analysis.specs.Common.Entries.{is_late, entry_from, no_entry, assesse
 use Rattle.analysis.specs.Common.ByRank.{rank_of, ranked, frame_of, ColumnsOf, FaultsOf, RanksOf}
 use Rattle.analysis.specs.Published.Response.{response_within, response_time, passes}
 use Rattle.analysis.specs.Assured.Time.{assured_time, assured}
-use Rattle.analysis.specs.Published.Answers.{entry_of, timed_refusal, timed_answer, choice_refusal, choice_assessment, least_interval, interval_answer}
-use Rattle.analysis.specs.ByRule.{rule_refusal, meets, judged_refusal, time_by, entry_by, choice_assessment_by, ranked_assessment, meets_answer, place_refusal, timed_by, least_interval_by, interval_answer_by}
+use Rattle.analysis.specs.Published.Answers.{entry_of, timed_refusal, timed_answer, choice_refusal, choice_assessment}
+use Rattle.analysis.specs.ByRule.{rule_refusal, meets, judged_refusal, time_by, entry_by, choice_assessment_by, ranked_assessment, meets_answer, place_refusal, timed_by}
 use Rattle.analysis.proofs.Laws.Common.Choice.{allowed-kept, own-last}
 use Rattle.analysis.proofs.Laws.Common.Placing.{ranks}
 use Rattle.analysis.proofs.Laws.Published.Columned.{response-ranked}
@@ -53,10 +53,10 @@ unfolding meets time_by passes assured
 meets-each Published s = refl
 meets-each Assured s = refl
 
--- the columns of a good table have its entries at an interval, each at its record's rank
-module _ (t : Table) (good : table_refusal t ≡ 0) (columns : List ℕ) (filled : ColumnsOf t columns) (choice faults : List ℕ) (beside : FaultsOf t choice faults) {interval : ℕ} {frame : Frame} (framed : frame ≡ frame_of t interval) where
+-- the columns of a good table have its entries, each at its record's rank
+module _ (t : Table) (good : table_refusal t ≡ 0) (columns : List ℕ) (filled : ColumnsOf t columns) (choice faults : List ℕ) (beside : FaultsOf t choice faults) {frame : Frame} (framed : frame ≡ frame_of t t.interval) where
   abbrev tasks : Tasks
-  tasks = tasks_of t interval choice
+  tasks = tasks_of t t.interval choice
 
   abbrev held : Tasks
   held = ranked columns frame faults
@@ -64,8 +64,8 @@ module _ (t : Table) (good : table_refusal t ≡ 0) (columns : List ℕ) (filled
   time-there : (rule : Rule) (place : ℕ) → place < t.count → time_by rule held (rank_of t place) ≡ time_by rule tasks place
   unfolding time_by response_time
   time-there Published place below =
-      ap (λ (f : Frame). response_within 65535 (ranked columns f faults) (rank_of t place)) framed ∙ response-ranked t good columns filled interval choice faults beside 65535 place below
-  time-there Assured place below = ap (λ (f : Frame). assured_time (ranked columns f faults) (rank_of t place)) framed ∙ assured-ranked t good columns filled interval choice faults beside place below
+      ap (λ (f : Frame). response_within 65535 (ranked columns f faults) (rank_of t place)) framed ∙ response-ranked t good columns filled t.interval choice faults beside 65535 place below
+  time-there Assured place below = ap (λ (f : Frame). assured_time (ranked columns f faults) (rank_of t place)) framed ∙ assured-ranked t good columns filled choice faults beside place below
 
   pub entry-there : (rule : Rule) (place : ℕ) → place < t.count → {rank : ℕ} → rank ≡ rank_of t place → entry_by rule held rank ≡ entry_by rule tasks place
   unfolding entry_by
@@ -81,21 +81,16 @@ module _ (t : Table) (good : table_refusal t ≡ 0) (columns : List ℕ) (filled
       ∙ some-agree t.count (λ place below. ap₂ is_late (filled place below).deadline (time-there rule place below)))
       ∙ sym (meets-each rule tasks)
 
-  -- and whether one is late, each asked at its record's place
-  some-late-there : (rule : Rule) (ranks : List ℕ) → RanksOf t ranks
-      → some_below (λ place. is_late (held.at (get_or ranks place 0)).deadline (time_by rule held (get_or ranks place 0))) held.count ≡ some_below (λ place. is_late (tasks.at place).deadline (time_by rule tasks place)) t.count
-  some-late-there rule ranks each =
-      ap (λ (n : ℕ). some_below (λ place. is_late (held.at (get_or ranks place 0)).deadline (time_by rule held (get_or ranks place 0))) n) (ap (λ (f : Frame). f.count) framed)
-      ∙ some-agree t.count (λ place below. ap (λ (rank : ℕ). is_late (held.at rank).deadline (time_by rule held rank)) (each place below) ∙ ap₂ is_late (filled place below).deadline (time-there rule place below))
-
--- at the table's own interval they have its verdict: all entries, each at its record's place, and whether one is late
-module _ (t : Table) (good : table_refusal t ≡ 0) (columns : List ℕ) (filled : ColumnsOf t columns) (choice faults : List ℕ) (beside : FaultsOf t choice faults) {frame : Frame} (framed : frame ≡ frame_of t t.interval) where
-  pub assessed-there : (rule : Rule) → judged_refusal rule t choice ≡ 0 → (ranks : List ℕ) → RanksOf t ranks → ranked_assessment rule (ranked columns frame faults) ranks ≡ choice_assessment_by rule t choice
+  -- and its verdict: all entries, each at its record's place, and whether one is late
+  pub assessed-there : (rule : Rule) → judged_refusal rule t choice ≡ 0 → (ranks : List ℕ) → RanksOf t ranks → ranked_assessment rule held ranks ≡ choice_assessment_by rule t choice
   unfolding choice_assessment_by ranked_assessment assessed
   assessed-there rule allowed ranks each =
-      let entries = ap (λ (n : ℕ). filled_below (λ place. entry_by rule (ranked columns frame faults) (get_or ranks place 0)) n (replicate 8 no_entry)) (ap (λ (f : Frame). f.count) framed)
-      ∙ filled-agree t.count (replicate 8 no_entry) (λ place below. entry-there t good columns filled choice faults beside framed rule place below (each place below)) in
-      let verdict = ap not (some-late-there t good columns filled choice faults beside framed rule ranks each) ∙ sym (meets-each rule (tasks_of t t.interval choice)) in
+      let count = ap (λ (f : Frame). f.count) framed in
+      let entries = ap (λ (n : ℕ). filled_below (λ place. entry_by rule held (get_or ranks place 0)) n (replicate 8 no_entry)) count
+      ∙ filled-agree t.count (replicate 8 no_entry) (λ place below. entry-there rule place below (each place below)) in
+      let late = ap (λ (n : ℕ). some_below (λ place. is_late (held.at (get_or ranks place 0)).deadline (time_by rule held (get_or ranks place 0))) n) count
+      ∙ some-agree t.count (λ place below. ap (λ (rank : ℕ). is_late (held.at rank).deadline (time_by rule held rank)) (each place below) ∙ ap₂ is_late (filled place below).deadline (time-there rule place below)) in
+      let verdict = ap not late ∙ sym (meets-each rule tasks) in
       simp allowed (λ j. record { refusal = 0; entries = entries j; passes = verdict j })
 
 -- where a choice is not refused, the verdict is whether it meets
@@ -116,7 +111,3 @@ assessed-published t choice = refl
 pub timed-published : (t : Table) (place : ℕ) → timed_by Published t place ≡ timed_answer t place
 unfolding timed_by timed_answer place_refusal timed_refusal rule_refusal entry_by time_by entry_of
 timed-published t place = refl
-
-pub interval-published : (t : Table) → interval_answer_by Published t ≡ interval_answer t
-unfolding interval_answer_by least_interval_by interval_answer least_interval rule_refusal meets
-interval-published t = refl

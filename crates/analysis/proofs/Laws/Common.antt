@@ -1,11 +1,9 @@
--- What both rules share: rounding up, the search, halving, tests and choices place by place, and the tasks in columns by rank, over which the code computes.
+-- What both rules share: rounding up, the search, tests and choices place by place, and the tasks in columns by rank, over which the code computes.
 pub mod Rounding
 pub mod Climbing
 pub mod Easier
 pub mod Cut
 pub mod Verdicts
-pub mod Halving
-pub mod EachTick
 pub mod Choice
 pub mod Supplier
 pub mod Reordered

@@ -8,5 +8,7 @@ pub mod Easier
 pub mod Below
 pub mod Lowest
 pub mod Alone
+pub mod EachTick
+pub mod Halving
 pub mod Columned
 pub mod Stages

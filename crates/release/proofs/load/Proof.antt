@@ -131,10 +131,10 @@ module _ {M : Type 1} {𝓤 : Ura M} (𝓛 : Logic 𝓤) (mem : Memory → SProp
   judge-said : (refusal : ℕ) → ent 𝓤 (ensured 𝓛 judge-pair.ended (judge-pair.clauses 𝓛 mem run) (κ, tt) a tt refusal) (fact 𝓤 (refusal ≡ (decision in_use.now candidate.now protected).refusal))
   judge-said refusal = ex_e 𝓤 _ (λ ws. snd∗ 𝓤 (sem 𝓛 (lasts judge-pair.ended (κ, tt) a ws)) (fact 𝓤 (refusal ≡ (decision in_use.now candidate.now protected).refusal)))
 
-  part-said : (part : Bor (List ℕ)) → ent 𝓤 (ensured 𝓛 sheet-to-load.ended (sheet-to-load.clauses 𝓛 mem run) (κ, tt) a tt part) (fact 𝓤 (Handed in_use candidate (decision in_use.now candidate.now protected) part))
-  part-said part = ex_e 𝓤 _ (λ ws. snd∗ 𝓤 (sem 𝓛 (lasts sheet-to-load.ended (κ, tt) a ws)) (fact 𝓤 (Handed in_use candidate (decision in_use.now candidate.now protected) part)))
+  part-said : (part : Bor (List ℕ)) → ent 𝓤 (ensured 𝓛 sheet-to-load.ended (sheet-to-load.clauses 𝓛 mem run) (κ, tt) a tt part) (fact 𝓤 (Handed in_use candidate protected part))
+  part-said part = ex_e 𝓤 _ (λ ws. snd∗ 𝓤 (sem 𝓛 (lasts sheet-to-load.ended (κ, tt) a ws)) (fact 𝓤 (Handed in_use candidate protected part)))
 
-  exits : (refusal : ℕ) (part : Bor (List ℕ)) → refusal < 2 ^ 8 → Loaded in_use candidate (decision in_use.now candidate.now protected) (made refusal part) → ent 𝓤 (⋆ 𝓛 (‵ (Bytes.own part (mach part ∷ [])) ∷ Token ∷ Sheets ∷ [])) (Post (T'.lowered (made refusal part)))
+  exits : (refusal : ℕ) (part : Bor (List ℕ)) → refusal < 2 ^ 8 → Loaded in_use candidate protected (made refusal part) → ent 𝓤 (⋆ 𝓛 (‵ (Bytes.own part (mach part ∷ [])) ∷ Token ∷ Sheets ∷ [])) (Post (T'.lowered (made refusal part)))
   exits refusal part small e =
       qed 𝓛 (‵ (Bytes.own part (mach part ∷ [])) ∷ Token ∷ Sheets ∷ []) ∵
       suffices ! _ (ends_at 𝓛 loading.ended stayed (loading.clauses 𝓛 mem run) (((κ, tt), (q, tt), tt, a, at), tt) (T'.lowered (made refusal part)) (made refusal part) (tt, (tt, (tt, tt))) (tt, (tt, (tt, tt)))) $ says ! e $
@@ -164,7 +164,7 @@ module _ {M : Type 1} {𝓤 : Ura M} (𝓛 : Logic 𝓤) (mem : Memory → SProp
         use2 𝓛 (raw ((SheetToLoad 𝓛 mem run).pre to_part) ⊛ Sheets) (goes ((SheetToLoad 𝓛 mem run).pre to_part) part-asks) $ split ! $
         calls_at ! fm (SheetToLoad 𝓛 mem run) known-part to_part (and_then ! (load ! (from ! (stop !)) (look ! 10 refl)) (and_then ! (load ! (from ! (stop !)) (look ! 8 refl)) (and_then ! (load ! (from ! (stop !)) (look ! 6 refl)) (no_more !)))) (λ u'.
         use1 𝓛 (later (some (λ (part : Bor (List ℕ)). (Token ⊛ ‵ (Bytes.own part (u' ∷ []))) ⊛ raw (ensured 𝓛 sheet-to-load.ended (sheet-to-load.clauses 𝓛 mem run) (κ, tt) a tt part)))) (id⊢ 𝓤 _) $ await ! tt $ pick ! (λ part.
-        split ! $ move ! (1 ∷ []) $ use1 𝓛 (raw (fact 𝓤 (Handed in_use candidate (decision in_use.now candidate.now protected) part))) (part-said part) $ heard ! (Handed in_use candidate (decision in_use.now candidate.now protected) part) (λ parted. split ! $ move ! (1 ∷ []) $
+        split ! $ move ! (1 ∷ []) $ use1 𝓛 (raw (fact 𝓤 (Handed in_use candidate protected part))) (part-said part) $ heard ! (Handed in_use candidate protected part) (λ parted. split ! $ move ! (1 ∷ []) $
         -- [what the part owns; the token; what the sheets own; room for _5; …; _4; …; _3; …; _2; …; _1; …; room for _0; …]
         peeks ! Bytes (Is Bytes) (shows 𝓛 Bytes) part (u' ∷ []) (λ is'.
         land ! (from ! (stop !)) (init ! 3 refl ((shr_slice_Lawful 𝓛 erased κ u8).typed part _ is').0) $

@@ -1,5 +1,8 @@
 -- `console::responses::print` is safe and ends. The loop's invariant: the buffer keeps its length. The measure is the number of places that are left. Assumes nothing.
-use Rattle.std.proofs.Common.{◌≡◌, ◌-◌, length, rules}
+use Prim.Native.Nat.{◌-◌}
+use mathlib.Core.Path.{◌≡◌}
+use lib.ListN.{length}
+use borrow.Author.Rules.{rules}
 use Rattle.console.proofs.responses.print.Statement.{statement}
 use Rattle.console.proofs.responses.print.Tie as tie
 

@@ -2,7 +2,7 @@
 use mathlib.Core.Path.{sym, ◌∙◌}
 use borrow.Author.Tests.{eq-eqb, ne_eqb}
 use Rattle.release.specs.Answers.{is_loaded, decided}
-use Rattle.release.proofs.Said.{meets-said}
+use Rattle.release.proofs.Said.{passes-said}
 use borrow.Author.Rules.{rules}
 use Rattle.release.proofs.deciding.between.Statement.{statement}
 use Rattle.release.proofs.deciding.between.Tie as tie
@@ -30,8 +30,8 @@ returns-2 c =
     let said = sym c.before.before.some-outside.ensures ∙ c.before.if2.true in
     c.refused2.ensures ∙ simp (eq-eqb _ _ same, said)
 
-meets-by-requires : tie.Need-meets-by-requires
-meets-by-requires c κs = search rules
+assess-requires : tie.Need-assess-requires
+assess-requires c κs = search rules
 
 some-grows-requires : tie.Need-some-grows-requires
 some-grows-requires c κs =
@@ -44,7 +44,7 @@ returns-3 c =
     let same = c.before.before.before.before.before.if1.false in
     let said = sym c.before.before.before.some-outside.ensures ∙ c.before.before.if2.false in
     let given = c.before.before.before.before.before.before.before.before in
-    simp (eq-eqb _ _ same, said, meets-said given.args.rule given.args.new given.requires.1 _ c.before.meets-by.ensures, c.some-grows.ensures)
+    simp (eq-eqb _ _ same, said, passes-said given.args.new given.requires.1 _ c.before.assess.ensures, c.some-grows.ensures)
 
 pub between-spec : {M : Type 1} → statement M
 between-spec =
@@ -56,6 +56,6 @@ between-spec =
     some-outside-requires
     refused-requires-2
     returns-2
-    meets-by-requires
+    assess-requires
     some-grows-requires
     returns-3)

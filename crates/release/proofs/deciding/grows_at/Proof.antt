@@ -6,11 +6,11 @@ use borrow.Author.Rules.{rules}
 use Rattle.release.proofs.deciding.grows_at.Statement.{statement}
 use Rattle.release.proofs.deciding.grows_at.Tie as tie
 
-time-by-requires : tie.Need-time-by-requires
-time-by-requires c κs = search rules
+response-time-requires : tie.Need-response-time-requires
+response-time-requires c κs = search rules
 
-time-by-requires-2 : tie.Need-time-by-requires-2
-time-by-requires-2 c κs = search rules
+response-time-requires-2 : tie.Need-response-time-requires-2
+response-time-requires-2 c κs = search rules
 
 grows-requires : tie.Need-grows-requires
 grows-requires c κs = search rules
@@ -19,12 +19,11 @@ returns : tie.Need-returns
 unfolding grows_at
 returns c =
     let given = c.before.before.before.before.before in
-    let rule = given.args.rule in
     let old = given.args.old in
     let new = given.args.new in
     c.grows.ensures
-    ∙ ap₂ grows (timed-outcome rule old given.args.place given.requires.0 given.requires.1.1.0 _ c.before.before.before.before.time-by.ensures)
-    (timed-outcome rule new given.args.place given.requires.1.0 given.requires.1.1.1 _ c.before.before.time-by2.ensures)
+    ∙ ap₂ grows (timed-outcome old given.args.place given.requires.0 given.requires.1.1.0 _ c.before.before.before.before.response-time.ensures)
+    (timed-outcome new given.args.place given.requires.1.0 given.requires.1.1.1 _ c.before.before.response-time2.ensures)
 
 pub grows-at-spec : {M : Type 1} → statement M
-grows-at-spec = tie.close (tie.spec time-by-requires time-by-requires-2 grows-requires returns)
+grows-at-spec = tie.close (tie.spec response-time-requires response-time-requires-2 grows-requires returns)

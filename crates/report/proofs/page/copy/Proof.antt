@@ -1,25 +1,25 @@
 -- `report::page::copy` meets its contract: before each turn the bytes below the place are put. Assumes nothing.
 use Prim.Native.Nat.{◌-◌, ◌≤◌, ◌<◌}
-use mathlib.Core.Path.{◌≡◌, ap, ◌∙◌}
+use mathlib.Core.Path.{◌≡◌}
 use native.Mathlib.Omega.{arith}
 use lib.ListN.{length, take, length-set}
-use lib.Seq.{sets, take_all}
+use lib.Seq.{sets}
 use Rattle.report.proofs.Pages.{copied_more}
 use borrow.Author.Rules.{rules}
 use Rattle.report.proofs.page.copy.Statement.{statement}
 use Rattle.report.proofs.page.copy.Tie as tie
 
 abbrev invariant-loop : tie.invariant-loop
-invariant-loop out₀ at word place₀ out place = (place ≤ length word) × (length out ≡ length out₀) × (out ≡ sets out₀ at (take place word))
+invariant-loop out₀ at size bytes place₀ out place = (place ≤ size) × (length out ≡ length out₀) × (out ≡ sets out₀ at (take place bytes))
 
 abbrev decreases-loop : tie.decreases-loop
-decreases-loop out₀ at word place₀ out place = length word - place
+decreases-loop out₀ at size bytes place₀ out place = size - place
 
 loop-holds : tie.Need-loop-init invariant-loop decreases-loop
 loop-holds c = search rules
 
-shared-slice-read-out : tie.Need-shared-slice-read-out invariant-loop decreases-loop
-shared-slice-read-out c = search rules
+array-read-out : tie.Need-array-read-out invariant-loop decreases-loop
+array-read-out c = search rules
 
 add-out : tie.Need-overflow-add-out invariant-loop decreases-loop
 add-out c = search rules
@@ -35,19 +35,18 @@ loop-less c = search rules
 
 loop-again : tie.Need-loop-preserved invariant-loop decreases-loop
 loop-again c =
-    let given = c.before.before.before.args in
-    let at = c.before.before.loop in
-    let below : at.place < length given.word.now = search rules in
-    (search rules, simp length-set at.invariant.1, cc (copied_more given.out.now given.word.now given.at at.place below))
+    let given = c.before.before.args in
+    let at = c.before.loop in
+    let below : at.place < length given.t3 = search rules in
+    (search rules, simp length-set at.invariant.1, cc (copied_more given.out.now given.t3 given.at at.place below))
 
 same_length : tie.Need-same-length invariant-loop decreases-loop
 same_length c = c.before.loop.invariant.1
 
 returns : tie.Need-returns invariant-loop decreases-loop
 returns c =
-    let at = c.before.loop in
-    let given = c.before.before.args in
-    at.invariant.2 ∙ ap (sets given.out.now given.at) (take_all at.place given.word.now (omega arith))
+    let all : c.before.loop.place ≡ c.before.before.args.size = omega arith in
+    cc
 
 pub copy_spec : {M : Type 1} → statement M
 copy_spec =
@@ -56,7 +55,7 @@ copy_spec =
     invariant-loop
     decreases-loop
     loop-holds
-    shared-slice-read-out
+    array-read-out
     add-out
     slice-write-out
     add-place

@@ -1,9 +1,8 @@
 -- `text::page::put` meets its contract: before each turn the bytes below the place are put. Assumes nothing.
-use Prim.Native.Nat.{ℕ, ◌+◌, ◌-◌, ◌≤◌, ◌<◌}
-use mathlib.Core.Path.{◌≡◌, refl, ap, ◌∙◌}
-use mathlib.Core.List.{List}
+use Prim.Native.Nat.{◌-◌, ◌≤◌, ◌<◌}
+use mathlib.Core.Path.{◌≡◌, refl}
 use native.Mathlib.Omega.{arith}
-use lib.ListN.{length, get_or, take, set, length-set}
+use lib.ListN.{length, take, length-set}
 use lib.Seq.{sets, take_all}
 use Rattle.report.proofs.Pages.{copied_more}
 use borrow.Author.Rules.{rules}
@@ -39,15 +38,13 @@ loop-again c =
     let given = c.before.before.before.args in
     let at = c.before.before.loop in
     let below : at.place < length given.bytes.now = search rules in
-    (search rules, simp length-set at.invariant.1, ap (λ (l : List ℕ). set l (given.at + at.place) (get_or given.bytes.now at.place 0)) at.invariant.2 ∙ copied_more given.out.now given.bytes.now given.at at.place below)
+    (search rules, simp length-set at.invariant.1, cc (copied_more given.out.now given.bytes.now given.at at.place below))
 
 same_length : tie.Need-same-length invariant-loop decreases-loop
 same_length c = c.before.loop.invariant.1
 
 returns : tie.Need-returns invariant-loop decreases-loop
-returns c =
-    let given = c.before.before.args in
-    record { long = refl; content = c.before.loop.invariant.2 ∙ ap (sets given.out.now given.at) (take_all c.before.loop.place given.bytes.now (omega arith)) }
+returns c = record { long = refl; content = cc (take_all c.before.loop.place c.before.before.args.bytes.now (omega arith)) }
 
 pub put_spec : {M : Type 1} → statement M
 put_spec =

@@ -21,7 +21,7 @@ most-requires-2 c κs = search rules
 
 returns : tie.Need-returns
 unfolding least_first
-returns c = simp (c.most2.ensures, c.before.before.most.ensures, c.before.least-down.ensures, c.before.before.before.before.least-up.ensures, c.before.before.before.least-up2.ensures)
+returns c = cc
 
 pub least-first-spec : {M : Type 1} → statement M
 least-first-spec =
