@@ -2,6 +2,10 @@
 ghost use Rattle.std.specs.Prelude.{◌≡◌};
 ghost use Rattle.streams.specs.Endings.{first_place, ends_in};
 
+use crate::descriptors::STATUS_FILENO;
+use crate::{reasons, words};
+use std::io::Error;
+
 // The sheet passes, the record is accepted, nothing is missed, what was looked for is found.
 pub const HOLDS: u8 = 0;
 
@@ -18,13 +22,10 @@ pub const STATUS: u8 = 1;
 
 pub const EXPLAIN: u8 = 2;
 
-// The descriptor on which the run command waits for the digit.
-const STATUS_FILENO: i32 = 3;
-
 // What the first argument asks for.
-pub fn asked() -> u8 {
+pub fn asked(rt: HostRuntime) -> u8 {
     let mut word = [0u8; 16];
-    let length = os::arg(1, &mut word);
+    let length = words::put(rt, 1, &mut word);
     if check::same(&word[..length], b"explain") {
         return EXPLAIN;
     }
@@ -35,6 +36,7 @@ pub fn asked() -> u8 {
 }
 
 // The place of the first argument after that.
+#[tactic(auto, unfolding(crate::specs::Endings::first_place))]
 pub fn first(word: u8) -> u8
     ensures { result ≡ first_place word }
 {
@@ -42,6 +44,7 @@ pub fn first(word: u8) -> u8
 }
 
 // How a command ends by what it asks.
+#[tactic(auto, unfolding(crate::specs::Endings::ends_in))]
 pub fn of(holds: bool) -> u8
     ensures { result ≡ ends_in holds }
 {
@@ -56,15 +59,15 @@ pub fn tell(word: u8, ending: u8) {
 }
 
 // Says why the answer could not be written.
-pub fn failed() -> u8 {
-    os::fail(b"desk: standard output");
+pub fn failed(error: Error) -> u8 {
+    reasons::say(b"standard output", &error);
     TROUBLE
 }
 
 // How a command ends whose lines were written, or not.
-pub fn ended(is_written: bool, ending: u8) -> u8 {
-    if is_written {
-        return ending;
+pub fn ended(written: Result<(), Error>, ending: u8) -> u8 {
+    match written {
+        Ok(()) => ending,
+        Err(error) => failed(error),
     }
-    failed()
 }

@@ -1,6 +1,8 @@
 // Numbers among the words.
+use crate::words;
+
 // A word as a number: 255 for those above, or that it is none.
-#[derive(Drop)]
+#[derive(Clone, Copy)]
 pub enum Parsed {
     Number(u8),
     Nothing,
@@ -15,24 +17,21 @@ fn longer(number: u8, digit: u8) -> u8 {
 // The number that a word of digits spells.
 fn spelt(word: &[u8]) -> Parsed {
     let mut number: u8 = 0;
-    let mut place: usize = 0;
-    while place < word.len() {
-        let byte = word[place];
-        if (byte < b'0') | (b'9' < byte) {
+    for byte in word {
+        if (*byte < b'0') | (b'9' < *byte) {
             return Parsed::Nothing;
         }
-        number = longer(number, byte % 16);
-        place += 1;
+        number = longer(number, *byte % 16);
     }
-    if place == 0 {
+    if word.len() == 0 {
         return Parsed::Nothing;
     }
     Parsed::Number(number)
 }
 
 // The number that an argument spells.
-pub fn word(place: usize) -> Parsed {
+pub fn word(rt: HostRuntime, place: usize) -> Parsed {
     let mut word = io::buffer();
-    let length = os::arg(place, &mut word);
+    let length = words::put(rt, place, &mut word);
     spelt(&word[..length])
 }

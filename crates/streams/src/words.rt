@@ -1,12 +1,14 @@
 // The words that the program is given: where those of a command begin, how many there are, and what is said where they are wrong.
 ghost use Rattle.std.specs.Prelude.{◌≡◌};
+ghost use Rattle.io.specs.Counts.{IsPrefixLen};
 ghost use Rattle.streams.specs.Endings.{word_place};
 
-use crate::endings;
-use libc::STDERR_FILENO;
+use crate::descriptors::STDERR_FILENO;
+use crate::{endings, parts};
+use std::env::{Env, FillError};
 
 // How a text is read: whether every sheet is one, whatever its name, whether nothing is said of it on standard error, and its scale.
-#[derive(Drop)]
+#[derive(Clone, Copy)]
 pub struct Options {
     pub is_text: bool,
     pub is_quiet: bool,
@@ -15,7 +17,7 @@ pub struct Options {
 
 // What the program was asked for beside the command: the place of the first word after it among the arguments, how many words
 // follow, whether a refusal is to be told in words, and how a text is read.
-#[derive(Drop)]
+#[derive(Clone, Copy)]
 pub struct Asked {
     pub first: u16,
     pub count: usize,
@@ -23,30 +25,54 @@ pub struct Asked {
     pub options: Options,
 }
 
-// How many arguments there are from a place on.
-fn count_from(first: u16) -> usize {
-    let count = os::arg_count();
-    if count < first as usize {
-        return 0;
+// Puts the argument at a place at the start of a buffer: how long it is, or 0 where there is none or it has no room.
+pub fn put(rt: HostRuntime, place: usize, buffer: &mut [u8]) -> usize
+    ensures { IsPrefixLen result buffer.new }
+{
+    let length = match rt.arg(place, buffer) {
+        Ok(length) => length,
+        Err(_) => 0,
+    };
+    parts::part(length, buffer)
+}
+
+// Whether there is an argument at a place.
+fn is_given(rt: HostRuntime, place: usize) -> bool {
+    let mut start = [0u8; 1];
+    match rt.arg(place, &mut start) {
+        Ok(_) => true,
+        Err(FillError::TooLong) => true,
+        Err(FillError::NotPresent) => false,
     }
-    count - first as usize
+}
+
+// How many arguments there are from a place on.
+fn count_from(rt: HostRuntime, first: u16) -> usize {
+    let mut count: usize = 0;
+    for place in first as usize..usize::MAX {
+        if !is_given(rt, place) {
+            return count;
+        }
+        count = count.saturating_add(1);
+    }
+    count
 }
 
 // What was asked for from a place on, with no options: a text is one by its name, is told of, and is not scaled.
-pub fn asked_from(first: u16, is_explained: bool) -> Asked {
+pub fn asked_from(rt: HostRuntime, first: u16, is_explained: bool) -> Asked {
     let options = Options {
         is_text: false,
         is_quiet: false,
         scale: 1,
     };
-    asked_with(first, is_explained, options)
+    asked_with(rt, first, is_explained, options)
 }
 
 // The same with options.
-pub fn asked_with(first: u16, is_explained: bool, options: Options) -> Asked {
+pub fn asked_with(rt: HostRuntime, first: u16, is_explained: bool, options: Options) -> Asked {
     Asked {
         first,
-        count: count_from(first),
+        count: count_from(rt, first),
         is_explained,
         options,
     }
