@@ -1,13 +1,16 @@
 // Names of files: where a name leads over symbolic links, the folder that it has in it, and the names that are the system's.
+ghost use Rattle.std.specs.Io.{ReadsAtMost};
 ghost use Rattle.io.specs.Counts.{IsPrefixLen};
 
-use streams::parts;
+use std::fs;
+use std::io::Error;
+use streams::{input, parts};
 
 // Over how many links a name is followed, as the system does it.
 const LINKS: u8 = 40;
 
 // A name: its bytes with zeros after them, how many they are, and whether it may be a link.
-#[derive(Drop)]
+#[derive(Clone, Copy)]
 pub struct Path {
     pub bytes: [u8; 4096],
     pub length: usize,
@@ -22,12 +25,9 @@ pub fn put(buffer: &mut [u8], at: usize, bytes: &[u8]) -> usize {
     if buffer.len() - at < bytes.len() {
         return at;
     }
-    let mut place: usize = 0;
-    while place < bytes.len() {
-        buffer[at + place] = bytes[place];
-        place += 1;
-    }
-    at + place
+    let end = at + bytes.len();
+    buffer[at..end].copy_from_slice(bytes);
+    end
 }
 
 // Whether a name begins with some bytes.
@@ -52,24 +52,27 @@ pub fn is_output(name: &[u8]) -> bool {
 pub fn folder(name: &[u8]) -> usize
     ensures { IsPrefixLen result name.now }
 {
-    let mut end = name.len();
-    while 0 < end {
-        if name[end - 1] == b'/' {
-            return end;
-        }
-        end -= 1;
+    match name.iter().rposition(|byte| *byte == b'/') {
+        Some(place) => parts::part(place.saturating_add(1), name),
+        None => 0,
     }
-    0
 }
 
-// The text of the link that a name is, at the start of a buffer: how long it is, or 0 where the name is none.
-fn text(name: [u8; 4096], buffer: &mut [u8]) -> usize
-    ensures { IsPrefixLen result buffer.new }
+// The text of the link that a name is, at the start of a buffer: how long it is, or 0 where the name is none. A link whose text cannot be
+// had is an error, since what it leads to is not known.
+fn text(rt: HostRuntime, name: &[u8], buffer: &mut [u8]) -> Result<usize, Error>
+    ensures { ReadsAtMost result buffer.new }
 {
-    let mut path = name;
-    path[4095] = 0;
-    let got = libc::readlink(&path, buffer);
-    io::count(got, buffer)
+    match fs::read_link(&rt, input::path(name)?) {
+        Ok(target) => {
+            let length = put(buffer, 0, target.as_str().as_bytes());
+            Ok(parts::part(length, buffer))
+        }
+        Err(error) => match error.raw_os_error() {
+            Some(_) => Ok(0),
+            None => Err(error),
+        },
+    }
 }
 
 // A name that begins with a folder's, as a link's text is read.
@@ -93,29 +96,29 @@ fn kept(name: &[u8], text: &[u8]) -> usize {
 }
 
 // The name that a link leads to, or the name itself where it is none.
-fn next(path: Path) -> Path {
+fn next(rt: HostRuntime, path: Path) -> Result<Path, Error> {
     let bytes = path.bytes;
     let length = parts::part(path.length, &bytes);
     let mut target = io::buffer();
-    let count = text(bytes, &mut target);
+    let count = text(rt, &bytes[..length], &mut target)?;
     if (count == 0) | is_the_systems(&bytes[..length]) {
-        return Path {
+        return Ok(Path {
             bytes,
             length,
             leads_on: false,
-        };
+        });
     }
     let start = parts::part(kept(&bytes[..length], &target[..count]), &bytes);
-    within(&bytes[..start], &target[..count])
+    Ok(within(&bytes[..start], &target[..count]))
 }
 
 // The name that a name leads to.
-pub fn lead(name: &[u8]) -> Path {
+pub fn lead(rt: HostRuntime, name: &[u8]) -> Result<Path, Error> {
     let mut path = within(b"", name);
-    let mut links: u8 = 0;
-    while links < LINKS && path.leads_on {
-        path = next(path);
-        links += 1;
+    for _ in 0..LINKS {
+        if path.leads_on {
+            path = next(rt, path)?;
+        }
     }
-    path
+    Ok(path)
 }

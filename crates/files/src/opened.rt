@@ -1,51 +1,51 @@
 // What an opened file is.
-use libc::types::{stat, timespec};
+use std::fs;
+use std::fs::Metadata;
+use std::io::Error;
+use std::os::unix::fs::MetadataExt;
+use streams::input::Opened;
+
+// The name that the system has for standard input.
+const STANDARD_INPUT: &str = "/proc/self/fd/0";
 
 // A file: its mode, which has its kind in it, its device and its number there.
-#[derive(Drop)]
+#[derive(Clone, Copy)]
 pub struct File {
     pub mode: u32,
     pub device: u64,
     pub inode: u64,
 }
 
-// What is known of no file.
-fn nothing() -> stat {
-    let time = timespec {
-        tv_sec: 0,
-        tv_nsec: 0,
-    };
-    stat {
-        st_dev: 0,
-        st_ino: 0,
-        st_nlink: 0,
-        st_mode: 0,
-        st_uid: 0,
-        st_gid: 0,
-        __pad: 0,
-        st_rdev: 0,
-        st_size: 0,
-        st_blksize: 0,
-        st_blocks: 0,
-        st_atim: time,
-        st_mtim: time,
-        st_ctim: time,
-        __unused: [0; 3],
+// What is known of an opened input.
+fn learnt(rt: HostRuntime, opened: &Opened) -> Result<Metadata, Error> {
+    match opened {
+        Opened::Standard(_) => fs::metadata(&rt, STANDARD_INPUT),
+        Opened::Named(file) => file.metadata(),
     }
 }
 
-// What is known of an opened file, or what was known before where nothing is told.
-fn learnt(opened: i32, mut known: stat) -> stat {
-    libc::fstat(opened, &mut known);
-    known
+// The file of which something is known, or none where nothing is told.
+pub fn known(told: Result<Metadata, Error>) -> File {
+    match told {
+        Ok(known) => File {
+            mode: known.mode(),
+            device: known.dev(),
+            inode: known.ino(),
+        },
+        Err(_) => none(),
+    }
+}
+
+// No file.
+pub fn none() -> File {
+    File {
+        mode: 0,
+        device: 0,
+        inode: 0,
+    }
 }
 
 // The file that was opened.
-pub fn identity(opened: i32) -> File {
-    let known = learnt(opened, nothing());
-    File {
-        mode: known.st_mode,
-        device: known.st_dev,
-        inode: known.st_ino,
-    }
+pub fn identity(rt: HostRuntime, opened: &Opened) -> File {
+    known(learnt(rt, opened))
 }
