@@ -1,8 +1,9 @@
 // `judge`: what document 01 says of a sheet, its times and then its choices.
 use crate::{passing, responses, taking};
-use analysis::Rule;
+use analysis::{Entry, Rule};
 use intake::explanation;
 use sheet::Table;
+use std::io::Error;
 use streams::words::Asked;
 use streams::{endings, words};
 
@@ -16,40 +17,46 @@ pub fn warn(table: Table) {
     }
 }
 
+// Prints the times of a good sheet, and then its choices.
+fn print(rt: HostRuntime, table: Table, entries: [Entry; 8]) -> Result<(), Error> {
+    responses::print(rt, table, entries)?;
+    passing::print(rt, table)
+}
+
 // Prints the answer to a good sheet.
-fn answer(table: Table, is_explained: bool) -> u8 {
+fn answer(rt: HostRuntime, table: Table, is_explained: bool) -> u8 {
     let assessment = analysis::assess(table);
     let entries = assessment.entries;
-    if responses::print(table, entries) {
-        if passing::print(table) {
+    match print(rt, table, entries) {
+        Ok(()) => {
             if is_explained & assessment.passes {
                 warn(table);
             }
-            return endings::of(assessment.passes);
+            endings::of(assessment.passes)
         }
+        Err(error) => endings::failed(error),
     }
-    endings::failed()
 }
 
 // Judges the sheet that an argument names.
-fn judge(place: usize, is_explained: bool) -> u8 {
-    let taken = taking::table(place, is_explained);
+fn judge(rt: HostRuntime, place: usize, is_explained: bool) -> u8 {
+    let taken = taking::table(rt, place, is_explained);
     if !taken.is_good {
         return taken.ending;
     }
     let table = taken.table;
-    answer(table, is_explained)
+    answer(rt, table, is_explained)
 }
 
 // Judges the sheet that the one word names, or standard input where there is none.
-pub fn run(asked: Asked) -> u8 {
+pub fn run(rt: HostRuntime, asked: Asked) -> u8 {
     if asked.count == 0 {
-        return judge(0, asked.is_explained);
+        return judge(rt, 0, asked.is_explained);
     }
     if asked.count != 1 {
         return words::trouble(
             b"judge takes one SHEET at a time, and the first word is no other command",
         );
     }
-    judge(words::at(asked, 0), asked.is_explained)
+    judge(rt, words::at(asked, 0), asked.is_explained)
 }

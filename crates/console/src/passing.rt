@@ -3,6 +3,7 @@ use crate::output;
 use crate::output::Kept;
 use report::Name;
 use sheet::Table;
+use std::io::Error;
 
 // How many choices a sheet of eight tasks has: no list is longer.
 const CHOICES: usize = 40320;
@@ -37,28 +38,27 @@ fn choice(list: &[u8], number: usize) -> [u8; 8] {
 }
 
 // Prints a line for each entry of a list of choices of so many tasks, and the last line.
-pub fn print_list(count: u8, list: &[u8], entries: usize) -> bool {
+pub fn print_list(rt: HostRuntime, count: u8, list: &[u8], entries: usize) -> Result<(), Error> {
     let mut buffer = io::buffer();
     let mut end: usize = 0;
-    let mut number: usize = 0;
-    while number < entries {
+    for number in 0..entries {
         let line = report::choice_line(count, choice(list, number));
-        match output::keep(&mut buffer, end, line) {
+        match output::keep(rt, &mut buffer, end, line) {
             Kept::Next(next) => end = next,
-            Kept::Lost => return false,
+            Kept::Lost(error) => return Err(error),
         }
-        number += 1;
     }
     output::finish(
+        rt,
         &mut buffer,
         end,
-        report::named_line(Name::End, number as u64),
+        report::named_line(Name::End, entries as u64),
     )
 }
 
 // Prints every passing choice of a good table.
-pub fn print(table: Table) -> bool {
+pub fn print(rt: HostRuntime, table: Table) -> Result<(), Error> {
     let mut list = [0u8; ROOM];
     let listing = choices::list(table, &mut list);
-    print_list(table.count, &list, listing.entries)
+    print_list(rt, table.count, &list, listing.entries)
 }

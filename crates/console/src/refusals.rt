@@ -6,16 +6,17 @@ use report::Name;
 use streams::{endings, parts};
 
 // Prints a refusal's line.
-fn line(refusal: u8) -> u8 {
+fn line(rt: HostRuntime, refusal: u8) -> u8 {
     output::line(
+        rt,
         report::named_line(Name::Refused, refusal as u64),
         endings::TROUBLE,
     )
 }
 
 // Prints a refusal that is no record's.
-pub fn print(refusal: u8, is_explained: bool) -> u8 {
-    let ending = line(refusal);
+pub fn print(rt: HostRuntime, refusal: u8, is_explained: bool) -> u8 {
+    let ending = line(rt, refusal);
     if is_explained {
         explanation::print(refusal);
     }
@@ -23,19 +24,19 @@ pub fn print(refusal: u8, is_explained: bool) -> u8 {
 }
 
 // Prints a sheet's refusal.
-pub fn print_of(given: Given, refusal: u8, is_explained: bool) -> u8 {
-    print_called(b"", given, refusal, is_explained)
+pub fn print_of(rt: HostRuntime, given: Given, refusal: u8, is_explained: bool) -> u8 {
+    print_called(rt, b"", given, refusal, is_explained)
 }
 
 // Prints the refusal of a text at a line and a column.
-pub fn print_at(refusal: u8, line: u64, column: u64) -> u8 {
+pub fn print_at(rt: HostRuntime, refusal: u8, line: u64, column: u64) -> u8 {
     let refused = report::refused_at_line(refusal, line, column);
-    output::line(refused, endings::TROUBLE)
+    output::line(rt, refused, endings::TROUBLE)
 }
 
 // Prints the refusal of one of two sheets.
-pub fn print_called(called: &[u8], given: Given, refusal: u8, is_explained: bool) -> u8 {
-    let ending = line(refusal);
+pub fn print_called(rt: HostRuntime, called: &[u8], given: Given, refusal: u8, is_explained: bool) -> u8 {
+    let ending = line(rt, refusal);
     if is_explained {
         explanation::print_of(called, sheets::unjudged(given), refusal);
         let bytes = given.bytes;

@@ -6,7 +6,7 @@ use streams::words::Asked;
 use verdicts::{assuring, judging, least, placing, releasing};
 
 // The commands, and that a word is none of them.
-#[derive(Drop)]
+#[derive(Clone, Copy)]
 enum Command {
     Judge,
     Interval,
@@ -57,38 +57,39 @@ fn named(word: &[u8]) -> Command {
 }
 
 // The command that an argument names.
-fn named_at(place: u16) -> Command {
+fn named_at(rt: HostRuntime, place: u16) -> Command {
     let mut word = io::buffer();
-    let length = os::arg(place as usize, &mut word);
+    let length = words::put(rt, place as usize, &mut word);
     named(&word[..length])
 }
 
 // Carries out the command that the first of all words names, with those after it; where it names none, the sheets that they name are judged.
-fn carry_out(asked: Asked, unnamed: Asked) -> u8 {
-    match named_at(unnamed.first) {
-        Command::Judge => judging::run(asked),
-        Command::Interval => least::run(asked),
-        Command::Replay => replaying::run(asked, false),
-        Command::Check => replaying::run(asked, true),
-        Command::Mend => mending::run(asked),
-        Command::Assured => assuring::run(asked),
-        Command::Cores => placing::run(asked),
-        Command::Release => releasing::run(asked),
-        Command::Write => texts::write(asked),
-        Command::Show => texts::show(asked),
-        Command::Nothing => judging::run_named(unnamed),
+fn carry_out(rt: HostRuntime, asked: Asked, unnamed: Asked) -> u8 {
+    match named_at(rt, unnamed.first) {
+        Command::Judge => judging::run(rt, asked),
+        Command::Interval => least::run(rt, asked),
+        Command::Replay => replaying::run(rt, asked, false),
+        Command::Check => replaying::run(rt, asked, true),
+        Command::Mend => mending::run(rt, asked),
+        Command::Assured => assuring::run(rt, asked),
+        Command::Cores => placing::run(rt, asked),
+        Command::Release => releasing::run(rt, asked),
+        Command::Write => texts::write(rt, asked),
+        Command::Show => texts::show(rt, asked),
+        Command::Nothing => judging::run_named(rt, unnamed),
     }
 }
 
 // Carries out the command that stands at a place, after the options.
-pub fn run(first: u8, is_explained: bool) -> u8 {
-    let read = options::at(first);
+pub fn run(rt: HostRuntime, first: u8, is_explained: bool) -> u8 {
+    let read = options::at(rt, first);
     let options = read.options;
     if !read.is_good {
         return words::trouble(b"--scale takes a number, how many of the text's ticks are one");
     }
     carry_out(
-        words::asked_with(read.next, is_explained, options),
-        words::asked_with(read.first, is_explained, options),
+        rt,
+        words::asked_with(rt, read.next, is_explained, options),
+        words::asked_with(rt, read.first, is_explained, options),
     )
 }

@@ -2,15 +2,16 @@
 // It reads, calls and writes; every figure and every byte of a line comes from the libraries below.
 // Its first argument may ask for more: `status` for how the command ended, as a digit on descriptor 3, and `explain` for that and for a
 // refusal in words on standard error.
+#![tactic(auto)]
 mod commands;
 mod options;
 
 use streams::endings;
 
-fn main() {
-    let word = endings::asked();
+fn main(rt: HostRuntime) {
+    let word = endings::asked(rt);
     endings::tell(
         word,
-        commands::run(endings::first(word), word == endings::EXPLAIN),
+        commands::run(rt, endings::first(word), word == endings::EXPLAIN),
     );
 }

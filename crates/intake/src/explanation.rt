@@ -2,8 +2,8 @@
 ghost use Rattle.std.specs.Prelude.{◌≡◌, ◌+◌};
 ghost use Rattle.sheet.specs.Rules.{broken_place};
 
-use libc::STDERR_FILENO;
 use sheet::Table;
+use streams::descriptors::STDERR_FILENO;
 
 // Writes a part of the line.
 pub fn say(words: &[u8]) {
@@ -82,14 +82,11 @@ fn is_of_text(byte: u8) -> bool {
 // Whether bytes look like lines of text.
 fn looks_like_text(bytes: &[u8]) -> bool {
     let mut has_lines = false;
-    let mut place: usize = 0;
-    while place < bytes.len() {
-        let byte = bytes[place];
-        if !is_of_text(byte) {
+    for byte in bytes {
+        if !is_of_text(*byte) {
             return false;
         }
-        has_lines = has_lines | (byte == b'\n');
-        place += 1;
+        has_lines = has_lines | (*byte == b'\n');
     }
     has_lines
 }

@@ -3,11 +3,12 @@ ghost use Rattle.std.specs.Prelude.{◌≡◌};
 ghost use Rattle.intake.specs.Inputs.{given_reading, given_table};
 
 use sheet::{Reading, Table};
-use streams::input::Filled;
+use std::io::Error;
+use streams::input::{Filled, Opened};
 use streams::{input, parts};
 
 // The first bytes of an input, how many of them it has, and whether it was read to its end.
-#[derive(Drop)]
+#[derive(Clone, Copy)]
 pub struct Given {
     pub bytes: [u8; 80],
     pub length: usize,
@@ -24,13 +25,13 @@ fn none() -> Given {
 }
 
 // The same, told on standard error.
-fn failed(name: &[u8]) -> Given {
-    input::say_why(name);
+fn failed(name: &[u8], error: Error) -> Given {
+    input::say_why(name, error);
     none()
 }
 
 // Reads an opened input to its end.
-fn take(opened: i32, name: &[u8]) -> Given {
+fn take(opened: &mut Opened, name: &[u8]) -> Given {
     let mut bytes = [0u8; 80];
     match input::fill(opened, &mut bytes) {
         Filled::Ended(length) => Given {
@@ -38,31 +39,30 @@ fn take(opened: i32, name: &[u8]) -> Given {
             length,
             is_read: true,
         },
-        Filled::Full => {
-            if input::is_read_to_its_end(opened) {
-                return Given {
-                    bytes,
-                    length: 80,
-                    is_read: true,
-                };
-            }
-            failed(name)
-        }
-        Filled::Failed => failed(name),
+        Filled::Full => match input::is_read_to_its_end(opened) {
+            Ok(is_read) => Given {
+                bytes,
+                length: 80,
+                is_read,
+            },
+            Err(error) => failed(name, error),
+        },
+        Filled::Failed(error) => failed(name, error),
     }
 }
 
 // The sheet that an argument names.
-pub fn read(place: usize) -> Given {
+pub fn read(rt: HostRuntime, place: usize) -> Given {
     let mut name = io::buffer();
-    let length = input::name(place, &mut name);
-    let opened = input::open(&name[..length]);
-    if opened < 0 {
-        return none();
+    let length = input::name(rt, place, &mut name);
+    match input::open(rt, &name[..length]) {
+        Some(mut opened) => {
+            let given = take(&mut opened, &name[..length]);
+            input::close(opened);
+            given
+        }
+        None => none(),
     }
-    let given = take(opened, &name[..length]);
-    input::close(opened);
-    given
 }
 
 // The sheet's table, or its refusal.

@@ -1,25 +1,26 @@
 // Document 01's program: one sheet, its times and then its choices.
 // Its first argument may ask for more, as the desk's may: `status` for how it ended, as a digit on descriptor 3, and `explain` for that and
 // for a refusal in words on standard error.
+#![tactic(auto)]
 use console::judging;
 use streams::{endings, words};
 
 // Whether the argument at a place is the word `judge`.
-fn is_command(place: u8) -> bool {
+fn is_command(rt: HostRuntime, place: u8) -> bool {
     let mut word = io::buffer();
-    let length = os::arg(place as usize, &mut word);
+    let length = words::put(rt, place as usize, &mut word);
     check::same(&word[..length], b"judge")
 }
 
 // Judges the sheet that the argument at a place names, after the word `judge` or without it.
-fn run(first: u8, is_explained: bool) -> u8 {
-    if is_command(first) {
-        return judging::run(words::asked_from(first as u16 + 1, is_explained));
+fn run(rt: HostRuntime, first: u8, is_explained: bool) -> u8 {
+    if is_command(rt, first) {
+        return judging::run(rt, words::asked_from(rt, first as u16 + 1, is_explained));
     }
-    judging::run(words::asked_from(first as u16, is_explained))
+    judging::run(rt, words::asked_from(rt, first as u16, is_explained))
 }
 
-fn main() {
-    let word = endings::asked();
-    endings::tell(word, run(endings::first(word), word == endings::EXPLAIN));
+fn main(rt: HostRuntime) {
+    let word = endings::asked(rt);
+    endings::tell(word, run(rt, endings::first(word), word == endings::EXPLAIN));
 }

@@ -1,40 +1,52 @@
 // A log or a supplier's record read in pieces of one buffer, whatever its length, with a word on standard error every few seconds where
 // that is a terminal.
-use libc::STDERR_FILENO;
 use replay::Following;
+use std::io::{Error, ErrorKind, IsTerminal};
+use std::time::{SystemTime, UNIX_EPOCH};
+use streams::descriptors::STDERR_FILENO;
 use streams::input;
+use streams::input::Opened;
 
 // How many seconds pass from one word on the way to the next.
 const SECONDS: u64 = 5;
 
 // A log or a record as far as it was read, and whether it was to its end.
-#[derive(Drop)]
+#[derive(Clone, Copy)]
 pub struct Followed {
     pub following: Following,
     pub is_read: bool,
 }
 
 // How far the reading is: the bytes read, the second of the last word, and whether there are words at all.
-#[derive(Drop)]
+#[derive(Clone, Copy)]
 struct Way {
     bytes: u64,
     told: u64,
     is_told: bool,
 }
 
+// The seconds from the clock's beginning to a time, or 0 where it is before that.
+fn seconds_to(now: SystemTime) -> u64 {
+    match now.duration_since(UNIX_EPOCH) {
+        Ok(passed) => passed.as_secs(),
+        Err(_) => 0,
+    }
+}
+
 // The seconds of the clock.
-fn seconds() -> u64 {
-    let mut stored: i64 = 0;
-    let now = libc::time(&mut stored);
-    if now < 0 { 0 } else { now as u64 }
+fn seconds(rt: HostRuntime) -> u64 {
+    match SystemTime::now(&rt) {
+        Ok(now) => seconds_to(now),
+        Err(_) => 0,
+    }
 }
 
 // The way before the first byte.
-fn start() -> Way {
+fn start(rt: HostRuntime) -> Way {
     Way {
         bytes: 0,
-        told: seconds(),
-        is_told: libc::isatty(STDERR_FILENO) == 1,
+        told: seconds(rt),
+        is_told: rt.stderr().is_terminal(),
     }
 }
 
@@ -46,10 +58,10 @@ fn say(bytes: u64) {
 }
 
 // The way after so many bytes more, told where it is time to.
-fn go_on(way: Way, more: usize) -> Way {
-    let bytes = std::num::wrapping_add_u64(way.bytes, more as u64);
-    let now = seconds();
-    if !way.is_told | (std::num::wrapping_sub_u64(now, way.told) < SECONDS) {
+fn go_on(rt: HostRuntime, way: Way, more: usize) -> Way {
+    let bytes = way.bytes.wrapping_add(more as u64);
+    let now = seconds(rt);
+    if !way.is_told | (now.wrapping_sub(way.told) < SECONDS) {
         return Way {
             bytes,
             told: way.told,
@@ -65,45 +77,53 @@ fn go_on(way: Way, more: usize) -> Way {
 }
 
 // Takes every piece of an opened input.
-fn take(opened: i32, start_of: Following) -> Followed {
+fn take(rt: HostRuntime, opened: &mut Opened, start_of: Following) -> Result<Following, Error> {
     let mut buffer = io::large_buffer();
     let mut following = start_of;
-    let mut way = start();
-    let mut turns = u64::MAX;
-    while 0 < turns {
-        let got = input::read(opened, &mut buffer);
-        if got <= 0 {
-            return Followed {
-                following,
-                is_read: got == 0,
-            };
+    let mut way = start(rt);
+    for _ in 0..u64::MAX {
+        let held = input::read(opened, &mut buffer)?;
+        if held == 0 {
+            return Ok(following);
         }
-        let held = io::count(got, &buffer);
         following = following.take(&buffer[..held]);
-        way = go_on(way, held);
-        turns -= 1;
+        way = go_on(rt, way, held);
     }
+    Err(Error::from(ErrorKind::Interrupted))
+}
+
+// What was not followed to its end.
+fn unread(following: Following) -> Followed {
     Followed {
         following,
         is_read: false,
     }
 }
 
-// Takes the whole of the input that an argument names, or says why it could not be read.
-pub fn read(place: usize, following: Following) -> Followed {
-    let mut name = io::buffer();
-    let length = input::name(place, &mut name);
-    let opened = input::open(&name[..length]);
-    if opened < 0 {
-        return Followed {
+// Takes the whole of an opened input of a name, or says why it could not be read.
+fn take_whole(rt: HostRuntime, opened: &mut Opened, name: &[u8], start_of: Following) -> Followed {
+    match take(rt, opened, start_of) {
+        Ok(following) => Followed {
             following,
-            is_read: false,
-        };
+            is_read: true,
+        },
+        Err(error) => {
+            input::say_why(name, error);
+            unread(start_of)
+        }
     }
-    let read = take(opened, following);
-    if !read.is_read {
-        input::say_why(&name[..length]);
+}
+
+// Takes the whole of the input that an argument names, or says why it could not be read.
+pub fn read(rt: HostRuntime, place: usize, following: Following) -> Followed {
+    let mut name = io::buffer();
+    let length = input::name(rt, place, &mut name);
+    match input::open(rt, &name[..length]) {
+        Some(mut opened) => {
+            let read = take_whole(rt, &mut opened, &name[..length], following);
+            input::close(opened);
+            read
+        }
+        None => unread(following),
     }
-    input::close(opened);
-    read
 }

@@ -1,14 +1,15 @@
 // `mend`: a sheet typed by hand, mended and written, with a line for each change.
 use console::{output, refusals};
 use files::opened::File;
-use files::saving;
+use files::{opened, saving};
 use intake::explanation;
-use libc::{STDERR_FILENO, STDOUT_FILENO};
 use lines::Task;
 use mend::{Change, Changes};
 use report::Line;
 use sources::{inputs, titles};
-use streams::input::Filled;
+use std::io::{Error, Print};
+use streams::descriptors::STDERR_FILENO;
+use streams::input::{Filled, Opened};
 use streams::words::Asked;
 use streams::{endings, input, parts, words};
 
@@ -39,35 +40,48 @@ fn put(buffer: &mut [u8], end: usize, change: Change, tasks: [Task; 8]) -> usize
     report::put_line(line, buffer, end)
 }
 
-// Prints a line for each change on a descriptor.
-fn print(descriptor: i32, changes: Changes, tasks: [Task; 8]) -> bool {
+// Prints a line for each change on a stream.
+fn print<P: Print>(stream: &P, changes: Changes, tasks: [Task; 8]) -> Result<(), Error> {
     let list = changes.list;
     let mut buffer = io::buffer();
     let mut end: usize = 0;
-    let mut number: usize = 0;
-    while number < 17 && number < changes.count as usize {
-        let change = list[number];
-        end = put(&mut buffer, end, change, tasks);
-        number += 1;
+    for number in 0..17usize {
+        if number < changes.count as usize {
+            let change = list[number];
+            end = put(&mut buffer, end, change, tasks);
+        }
     }
-    output::write_on(descriptor, &buffer, end)
+    output::write_on(stream, &buffer, end)
 }
 
 // Prints the changes. Where the sheet goes to standard output, they go to standard error.
-fn is_told(place: usize, changes: Changes, tasks: [Task; 8]) -> bool {
-    if saving::is_output(place) {
-        print(STDERR_FILENO, changes, tasks);
-        return true;
+fn tell(
+    rt: HostRuntime,
+    place: usize,
+    changes: Changes,
+    tasks: [Task; 8],
+) -> Result<(), Error> {
+    if saving::is_output(rt, place) {
+        let _ = print(&rt.stderr(), changes, tasks);
+        return Ok(());
     }
-    print(STDOUT_FILENO, changes, tasks)
+    print(&rt.stdout(), changes, tasks)
+}
+
+// Writes a mended sheet where an argument says; not to the file of its text.
+fn write(rt: HostRuntime, place: usize, sheet: &[u8], file: File) -> u8 {
+    if saving::save_apart(rt, place, sheet, file) {
+        return endings::HOLDS;
+    }
+    endings::TROUBLE
 }
 
 // Mends a sheet of bytes and writes it where the second word says, once its changes are told; not to the file of its text.
-fn answer(asked: Asked, sheet: &[u8], tasks: [Task; 8], file: File) -> u8 {
+fn answer(rt: HostRuntime, asked: Asked, sheet: &[u8], tasks: [Task; 8], file: File) -> u8 {
     let mut out = [0u8; 80];
     let mending = mend::mend(sheet, &mut out);
     if mending.refusal != 0 {
-        let ending = refusals::print(mending.refusal, asked.is_explained);
+        let ending = refusals::print(rt, mending.refusal, asked.is_explained);
         if asked.is_explained {
             explanation::print_of_text(sheet);
         }
@@ -75,14 +89,13 @@ fn answer(asked: Asked, sheet: &[u8], tasks: [Task; 8], file: File) -> u8 {
     }
     let place = words::at(asked, 1);
     let changes = mending.changes;
-    if !is_told(place, changes, tasks) {
-        return endings::failed();
+    match tell(rt, place, changes, tasks) {
+        Ok(()) => {
+            let written = parts::part(mending.written, &out);
+            write(rt, place, &out[..written], file)
+        }
+        Err(error) => endings::failed(error),
     }
-    let written = parts::part(mending.written, &out);
-    if saving::save_apart(place, &out[..written], file) {
-        return endings::HOLDS;
-    }
-    endings::TROUBLE
 }
 
 // Says that an input is too long for a sheet typed by hand.
@@ -96,52 +109,44 @@ fn too_long(name: &[u8]) -> u8 {
     endings::TROUBLE
 }
 
-// No file, so that a sheet of bytes may be replaced.
-fn no_file() -> File {
-    File {
-        mode: 0,
-        device: 0,
-        inode: 0,
-    }
-}
-
-// Reads an opened input to its end and answers it.
-fn take(asked: Asked, opened: i32, name: &[u8]) -> u8 {
+// Reads an opened input to its end and answers it. It is of no file, so that a sheet of bytes may be replaced.
+fn take(rt: HostRuntime, asked: Asked, opened: &mut Opened, name: &[u8]) -> u8 {
     let mut bytes = io::large_buffer();
     match input::fill(opened, &mut bytes) {
         Filled::Ended(length) => {
             let end = parts::part(length, &bytes);
             let empty = lines::no_reading();
             let tasks = empty.tasks;
-            answer(asked, &bytes[..end], tasks, no_file())
+            answer(rt, asked, &bytes[..end], tasks, opened::none())
         }
         Filled::Full => too_long(name),
-        Filled::Failed => {
-            input::say_why(name);
+        Filled::Failed(error) => {
+            input::say_why(name, error);
             endings::TROUBLE
         }
     }
 }
 
 // Mends the sheet of bytes that the first word names.
-fn mend_bytes(asked: Asked) -> u8 {
+fn mend_bytes(rt: HostRuntime, asked: Asked) -> u8 {
     let mut name = io::buffer();
-    let length = input::name(words::at(asked, 0), &mut name);
-    let opened = input::open(&name[..length]);
-    if opened < 0 {
-        return endings::TROUBLE;
+    let length = input::name(rt, words::at(asked, 0), &mut name);
+    match input::open(rt, &name[..length]) {
+        Some(mut opened) => {
+            let ending = take(rt, asked, &mut opened, &name[..length]);
+            input::close(opened);
+            ending
+        }
+        None => endings::TROUBLE,
     }
-    let ending = take(asked, opened, &name[..length]);
-    input::close(opened);
-    ending
 }
 
 // Mends what the text says that the first word names.
-fn mend_text(asked: Asked) -> u8 {
-    if saving::are_one(words::at(asked, 0), words::at(asked, 1)) {
+fn mend_text(rt: HostRuntime, asked: Asked) -> u8 {
+    if saving::are_one(rt, words::at(asked, 0), words::at(asked, 1)) {
         return saving::say_lost();
     }
-    let source = inputs::text_at(asked, words::at(asked, 0), true);
+    let source = inputs::text_at(rt, asked, words::at(asked, 0), true);
     if !source.is_taken {
         return endings::TROUBLE;
     }
@@ -150,16 +155,16 @@ fn mend_text(asked: Asked) -> u8 {
     let file = source.file;
     let bytes = given.bytes;
     let length = parts::part(given.length, &bytes);
-    answer(asked, &bytes[..length], tasks, file)
+    answer(rt, asked, &bytes[..length], tasks, file)
 }
 
 // Mends the sheet that the first word names into the file that the second one does.
-pub fn run(asked: Asked) -> u8 {
+pub fn run(rt: HostRuntime, asked: Asked) -> u8 {
     if asked.count != 2 {
         return words::trouble(b"mend takes two words, SHEET and OUT");
     }
-    if inputs::is_text(asked, words::at(asked, 0)) {
-        return mend_text(asked);
+    if inputs::is_text(rt, asked, words::at(asked, 0)) {
+        return mend_text(rt, asked);
     }
-    mend_bytes(asked)
+    mend_bytes(rt, asked)
 }

@@ -5,6 +5,7 @@ use intake::sheets::Given;
 use replay::{Checked, Counts, Following};
 use report::{Name, Saying};
 use sources::inputs;
+use std::io::Error;
 use streams::words::Asked;
 use streams::{endings, input, parts, words};
 
@@ -19,7 +20,7 @@ fn before(given: Given, is_record: bool) -> Following {
 }
 
 // Prints the seven counts.
-fn print(counts: Counts) -> bool {
+fn print(rt: HostRuntime, counts: Counts) -> Result<(), Error> {
     let mut buffer = io::buffer();
     let attempts = report::named_line(Name::Attempts, counts.first_attempts);
     let end = report::put_line(attempts, &mut buffer, 0);
@@ -34,50 +35,50 @@ fn print(counts: Counts) -> bool {
     let missed = report::named_line(Name::Missed, counts.missed);
     let end = report::put_line(missed, &mut buffer, end);
     let unfinished = report::named_line(Name::Unfinished, counts.unfinished);
-    output::finish(&mut buffer, end, unfinished)
+    output::finish(rt, &mut buffer, end, unfinished)
 }
 
 // Answers a log that was read to its end.
-fn answer_log(given: Given, following: Following, is_explained: bool) -> u8 {
+fn answer_log(rt: HostRuntime, given: Given, following: Following, is_explained: bool) -> u8 {
     let replayed = following.replayed();
     if replayed.refusal != 0 {
-        return refusals::print_of(given, replayed.refusal, is_explained);
+        return refusals::print_of(rt, given, replayed.refusal, is_explained);
     }
     let counts = replayed.counts;
-    endings::ended(print(counts), endings::of(counts.missed == 0))
+    endings::ended(print(rt, counts), endings::of(counts.missed == 0))
 }
 
 // Answers a record that was read to its end.
-fn answer_record(given: Given, following: Following, is_explained: bool) -> u8 {
+fn answer_record(rt: HostRuntime, given: Given, following: Following, is_explained: bool) -> u8 {
     match following.checked() {
-        Checked::Refused(refusal) => refusals::print_of(given, refusal, is_explained),
-        Checked::Accepted => output::line(report::saying_line(Saying::Accepted), endings::HOLDS),
+        Checked::Refused(refusal) => refusals::print_of(rt, given, refusal, is_explained),
+        Checked::Accepted => output::line(rt, report::saying_line(Saying::Accepted), endings::HOLDS),
         Checked::Differs(tick) => {
-            output::line(report::named_line(Name::Differs, tick), endings::FAILS)
+            output::line(rt, report::named_line(Name::Differs, tick), endings::FAILS)
         }
     }
 }
 
 // Follows the log or the record that the second word names, of the sheet that the first one does.
-pub fn run(asked: Asked, is_record: bool) -> u8 {
+pub fn run(rt: HostRuntime, asked: Asked, is_record: bool) -> u8 {
     if asked.count != 2 {
         return words::trouble(b"replay takes SHEET and LOG, and check takes SHEET and RECORD");
     }
-    if input::are_both_standard(words::at(asked, 0), words::at(asked, 1)) {
+    if input::are_both_standard(rt, words::at(asked, 0), words::at(asked, 1)) {
         return words::standard_input_twice();
     }
-    let source = inputs::sheet_at(asked, words::at(asked, 0));
+    let source = inputs::sheet_at(rt, asked, words::at(asked, 0));
     if !source.is_taken {
         return endings::TROUBLE;
     }
     let given = source.given;
-    let read = following::read(words::at(asked, 1), before(given, is_record));
+    let read = following::read(rt, words::at(asked, 1), before(given, is_record));
     if !read.is_read {
         return endings::TROUBLE;
     }
     let following = read.following;
     if is_record {
-        return answer_record(given, following, asked.is_explained);
+        return answer_record(rt, given, following, asked.is_explained);
     }
-    answer_log(given, following, asked.is_explained)
+    answer_log(rt, given, following, asked.is_explained)
 }

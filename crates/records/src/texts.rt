@@ -9,14 +9,14 @@ use streams::words::Asked;
 use streams::{endings, parts, words};
 
 // Writes the sheet of the text that the first word names where the second says, which is not the file of the text.
-pub fn write(asked: Asked) -> u8 {
+pub fn write(rt: HostRuntime, asked: Asked) -> u8 {
     if asked.count != 2 {
         return words::trouble(b"write takes two words, TEXT and OUT");
     }
-    if saving::are_one(words::at(asked, 0), words::at(asked, 1)) {
+    if saving::are_one(rt, words::at(asked, 0), words::at(asked, 1)) {
         return saving::say_lost();
     }
-    let source = inputs::text_at(asked, words::at(asked, 0), false);
+    let source = inputs::text_at(rt, asked, words::at(asked, 0), false);
     if !source.is_taken {
         return endings::TROUBLE;
     }
@@ -24,7 +24,7 @@ pub fn write(asked: Asked) -> u8 {
     let file = source.file;
     let bytes = given.bytes;
     let length = parts::part(given.length, &bytes);
-    if saving::save_apart(words::at(asked, 1), &bytes[..length], file) {
+    if saving::save_apart(rt, words::at(asked, 1), &bytes[..length], file) {
         return endings::HOLDS;
     }
     endings::TROUBLE
@@ -33,36 +33,34 @@ pub fn write(asked: Asked) -> u8 {
 // The names of tasks.
 fn names_of(tasks: [Task; 8]) -> [Name; 8] {
     let mut names = [cells::no_name(); 8];
-    let mut place: usize = 0;
-    while place < 8 {
+    for place in 0..8usize {
         let task = tasks[place];
         let name = task.name;
         names[place] = name;
-        place += 1;
     }
     names
 }
 
 // Prints the text of a good sheet.
-fn print(table: Table) -> u8 {
+fn print(rt: HostRuntime, table: Table) -> u8 {
     let mut buffer = io::buffer();
     let shown = text::show(table, &mut buffer);
-    endings::ended(output::write(&buffer, shown.size), endings::HOLDS)
+    endings::ended(output::write(rt, &buffer, shown.size), endings::HOLDS)
 }
 
 // Prints the text of a good sheet with its tasks' names.
-fn print_named(table: Table, tasks: [Task; 8]) -> u8 {
+fn print_named(rt: HostRuntime, table: Table, tasks: [Task; 8]) -> u8 {
     let mut buffer = io::buffer();
     let shown = text::show_named(table, names_of(tasks), &mut buffer);
-    endings::ended(output::write(&buffer, shown.size), endings::HOLDS)
+    endings::ended(output::write(rt, &buffer, shown.size), endings::HOLDS)
 }
 
 // Prints the text of the sheet that the one word names, with the names of its tasks where it is a text that has them.
-pub fn show(asked: Asked) -> u8 {
+pub fn show(rt: HostRuntime, asked: Asked) -> u8 {
     if asked.count != 1 {
         return words::trouble(b"show takes one word, SHEET");
     }
-    let taken = taking::table(asked, words::at(asked, 0));
+    let taken = taking::table(rt, asked, words::at(asked, 0));
     if !taken.is_good {
         return endings::TROUBLE;
     }
@@ -70,7 +68,7 @@ pub fn show(asked: Asked) -> u8 {
     let tasks = taken.tasks;
     let first = tasks[0];
     if first.name.length != 0 {
-        return print_named(table, tasks);
+        return print_named(rt, table, tasks);
     }
-    print(table)
+    print(rt, table)
 }

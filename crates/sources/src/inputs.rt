@@ -2,6 +2,7 @@
 // its name, .txt, .csv or .tsv in any case, or where that is asked for.
 use crate::{explaining, packing, scanning, tables};
 use console::refusals;
+use files::opened;
 use files::opened::File;
 use intake::sheets;
 use intake::sheets::Given;
@@ -11,7 +12,7 @@ use streams::{input, words};
 
 // A sheet's bytes, the tasks as its text has them, which have no line and no name where there is none, the file of the text, and whether
 // all was well. What was not is told.
-#[derive(Drop)]
+#[derive(Clone, Copy)]
 pub struct Source {
     pub given: Given,
     pub tasks: [Task; 8],
@@ -20,7 +21,7 @@ pub struct Source {
 }
 
 // The figures of a text, its file, and whether it was read and understood. What was not is told.
-#[derive(Drop)]
+#[derive(Clone, Copy)]
 struct Found {
     figures: Figures,
     file: File,
@@ -59,9 +60,9 @@ fn is_named(name: &[u8]) -> bool {
 }
 
 // Whether the input that an argument names is read as a text.
-pub fn is_text(asked: Asked, place: usize) -> bool {
+pub fn is_text(rt: HostRuntime, asked: Asked, place: usize) -> bool {
     let mut name = io::buffer();
-    let length = input::name(place, &mut name);
+    let length = input::name(rt, place, &mut name);
     asked.options.is_text | is_named(&name[..length])
 }
 
@@ -81,25 +82,16 @@ fn nothing(file: File) -> Source {
     }
 }
 
-// No file.
-fn no_file() -> File {
-    File {
-        mode: 0,
-        device: 0,
-        inode: 0,
-    }
-}
-
 // The figures of the text of a name.
-fn understood(asked: Asked, name: &[u8]) -> Found {
-    let read = scanning::read(name);
+fn understood(rt: HostRuntime, asked: Asked, name: &[u8]) -> Found {
+    let read = scanning::read(rt, name);
     let file = read.source;
     let scan = read.scan;
     let finished = scan.finish();
     let figures = finished.figures;
     let trouble = finished.trouble;
     if read.is_read & (trouble.refusal != 0) {
-        refusals::print_at(trouble.refusal, trouble.line, trouble.column);
+        refusals::print_at(rt, trouble.refusal, trouble.line, trouble.column);
         if !asked.options.is_quiet {
             explaining::print(name, trouble);
         }
@@ -113,11 +105,11 @@ fn understood(asked: Asked, name: &[u8]) -> Found {
 
 // Whether figures are a sheet at the scale, or need only be mended to be one where that is asked; why they are none is told, and so is
 // what is to be known of an answer.
-fn is_fit(asked: Asked, name: &[u8], figures: Figures, is_mended: bool) -> bool {
+fn is_fit(rt: HostRuntime, asked: Asked, name: &[u8], figures: Figures, is_mended: bool) -> bool {
     let options = asked.options;
     let fitted = text::scaled(figures, options.scale);
     if (fitted.refusal != 0) & (!is_mended | (30 <= fitted.refusal)) {
-        refusals::print(fitted.refusal, false);
+        refusals::print(rt, fitted.refusal, false);
         if !options.is_quiet {
             tables::print(name, figures, options.scale, fitted);
         }
@@ -148,14 +140,14 @@ fn written(figures: Figures, scale: u64, is_mended: bool) -> Given {
 }
 
 // The sheet of the text of a name, or what is to be mended to be one.
-fn of_text(asked: Asked, name: &[u8], is_mended: bool) -> Source {
-    let found = understood(asked, name);
+fn of_text(rt: HostRuntime, asked: Asked, name: &[u8], is_mended: bool) -> Source {
+    let found = understood(rt, asked, name);
     let figures = found.figures;
     let file = found.file;
     if !found.is_good {
         return nothing(file);
     }
-    if !is_fit(asked, name, figures, is_mended) {
+    if !is_fit(rt, asked, name, figures, is_mended) {
         return nothing(file);
     }
     let tasks = figures.tasks;
@@ -168,33 +160,33 @@ fn of_text(asked: Asked, name: &[u8], is_mended: bool) -> Source {
 }
 
 // The sheet of a name's bytes.
-fn of_bytes(place: usize) -> Source {
-    let given = sheets::read(place);
+fn of_bytes(rt: HostRuntime, place: usize) -> Source {
+    let given = sheets::read(rt, place);
     let empty = lines::no_reading();
     let tasks = empty.tasks;
     Source {
         given,
         tasks,
-        file: no_file(),
+        file: opened::none(),
         is_taken: given.is_read,
     }
 }
 
 // The text that an argument names as a sheet.
-pub fn text_at(asked: Asked, place: usize, is_mended: bool) -> Source {
+pub fn text_at(rt: HostRuntime, asked: Asked, place: usize, is_mended: bool) -> Source {
     let mut name = io::buffer();
-    let length = input::name(place, &mut name);
-    of_text(asked, &name[..length], is_mended)
+    let length = input::name(rt, place, &mut name);
+    of_text(rt, asked, &name[..length], is_mended)
 }
 
 // The sheet that an argument names.
-pub fn sheet_at(asked: Asked, place: usize) -> Source {
-    if is_text(asked, place) {
-        return text_at(asked, place, false);
+pub fn sheet_at(rt: HostRuntime, asked: Asked, place: usize) -> Source {
+    if is_text(rt, asked, place) {
+        return text_at(rt, asked, place, false);
     }
     if asked.options.scale != 1 {
         words::trouble(b"--scale is for texts, and a SHEET is bytes");
-        return nothing(no_file());
+        return nothing(opened::none());
     }
-    of_bytes(place)
+    of_bytes(rt, place)
 }

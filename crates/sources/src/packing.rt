@@ -62,11 +62,11 @@ fn edition(is_whole: bool) -> u8 {
 // A sheet with the records of a table.
 fn with_records(given: Given, is_whole: bool, count: u8, records: [Record; 8]) -> Given {
     let mut sheet = given;
-    let mut place: usize = 0;
-    while place < 8 && place < count as usize {
-        let record = records[place];
-        sheet = with_record(sheet, start(is_whole, place), record);
-        place += 1;
+    for place in 0..8usize {
+        if place < count as usize {
+            let record = records[place];
+            sheet = with_record(sheet, start(is_whole, place), record);
+        }
     }
     sheet
 }

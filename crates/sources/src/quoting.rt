@@ -1,8 +1,8 @@
 // Bytes of a text on standard error, control characters shown.
 use cells::Name;
 use intake::explanation;
-use libc::STDERR_FILENO;
 use lines::Excerpt;
+use streams::descriptors::STDERR_FILENO;
 use streams::{input, parts};
 
 // Writes a byte, or what stands for it.
@@ -22,10 +22,8 @@ fn say_byte(byte: u8) {
 
 // Writes bytes, each as it is shown.
 fn say_bytes(bytes: &[u8]) {
-    let mut place: usize = 0;
-    while place < bytes.len() {
-        say_byte(bytes[place]);
-        place += 1;
+    for byte in bytes {
+        say_byte(*byte);
     }
 }
 

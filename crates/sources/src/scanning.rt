@@ -1,57 +1,66 @@
 // A text read in pieces of one buffer, whatever its length.
 use files::opened;
 use files::opened::File;
+use std::io::{Error, ErrorKind};
 use streams::input;
+use streams::input::Opened;
 use text::Scan;
 
 // A text as far as it was read, whether it was to its end, and the file that it was read from.
-#[derive(Drop)]
+#[derive(Clone, Copy)]
 pub struct Scanned {
     pub scan: Scan,
     pub is_read: bool,
     pub source: File,
 }
 
-// Takes every piece of a text that was opened as a file.
-fn take(opened: i32, source: File) -> Scanned {
+// Takes every piece of an opened text.
+fn take(opened: &mut Opened) -> Result<Scan, Error> {
     let mut buffer = io::large_buffer();
     let mut scan = Scan::start();
-    let mut turns = u64::MAX;
-    while 0 < turns {
-        let got = input::read(opened, &mut buffer);
-        if got <= 0 {
-            return Scanned {
-                scan,
-                is_read: got == 0,
-                source,
-            };
+    for _ in 0..u64::MAX {
+        let held = input::read(opened, &mut buffer)?;
+        if held == 0 {
+            return Ok(scan);
         }
-        let held = io::count(got, &buffer);
         scan = scan.take(&buffer[..held]);
-        turns -= 1;
     }
+    Err(Error::from(ErrorKind::Interrupted))
+}
+
+// No text, of a file.
+fn nothing(source: File) -> Scanned {
     Scanned {
-        scan,
+        scan: Scan::start(),
         is_read: false,
         source,
     }
 }
 
-// Reads the text of a name, or says why it could not be read.
-pub fn read(name: &[u8]) -> Scanned {
-    let opened = input::open(name);
-    let source = opened::identity(opened);
-    if opened < 0 {
-        return Scanned {
-            scan: Scan::start(),
-            is_read: false,
+// Reads an opened text of a name, or says why it could not be read.
+fn read_opened(opened: &mut Opened, name: &[u8], source: File) -> Scanned {
+    match take(opened) {
+        Ok(scan) => Scanned {
+            scan,
+            is_read: true,
             source,
-        };
+        },
+        Err(error) => {
+            input::say_why(name, error);
+            nothing(source)
+        }
     }
-    let read = take(opened, source);
-    if !read.is_read {
-        input::say_why(name);
+}
+
+// Reads the text of a name, or says why it could not be read.
+pub fn read(rt: HostRuntime, name: &[u8]) -> Scanned {
+    match input::open(rt, name) {
+        Some(mut opened) => {
+            let source = opened::identity(rt, &opened);
+            let read = read_opened(&mut opened, name, source);
+            input::close(opened);
+            read
+        }
+        None => nothing(opened::none()),
     }
-    input::close(opened);
-    read
 }

@@ -14,13 +14,13 @@ fn is_above(task: Task, count: u8) -> bool {
 // The first place of a task with a priority above the count, or the count.
 fn first_high(figures: Figures) -> u8 {
     let tasks = figures.tasks;
-    let mut place: u8 = 0;
-    while place < 8 && place < figures.count {
-        let task = tasks[place as usize];
-        if is_above(task, figures.count) {
-            return place;
+    for place in 0..8u8 {
+        if place < figures.count {
+            let task = tasks[place as usize];
+            if is_above(task, figures.count) {
+                return place;
+            }
         }
-        place += 1;
     }
     figures.count
 }

@@ -7,7 +7,7 @@ use sheet::Table;
 use streams::words::Asked;
 
 // A good sheet's table and its tasks as its text has them, or that it is none, which is told.
-#[derive(Drop)]
+#[derive(Clone, Copy)]
 pub struct Taken {
     pub table: Table,
     pub tasks: [Task; 8],
@@ -15,14 +15,14 @@ pub struct Taken {
 }
 
 // Reads the sheet that an argument names, and tells why it is not good.
-pub fn table(asked: Asked, place: usize) -> Taken {
-    let source = inputs::sheet_at(asked, place);
+pub fn table(rt: HostRuntime, asked: Asked, place: usize) -> Taken {
+    let source = inputs::sheet_at(rt, asked, place);
     let given = source.given;
     let tasks = source.tasks;
     let reading = sheets::reading(given);
     let table = reading.table;
     if source.is_taken & (reading.refusal != 0) {
-        refusals::print_of(given, reading.refusal, asked.is_explained);
+        refusals::print_of(rt, given, reading.refusal, asked.is_explained);
     }
     Taken {
         table,

@@ -5,6 +5,7 @@ use console::{output, passing, refusals};
 use lines::Task;
 use sheet::Table;
 use sources::{taking, titles};
+use std::io::Error;
 use streams::words::Asked;
 use streams::{endings, words};
 
@@ -19,51 +20,60 @@ fn untimed(given: assured::Entry) -> Entry {
 }
 
 // Prints a line for each of so many tasks.
-fn print_times(count: u8, times: Times, tasks: [Task; 8]) -> bool {
+fn print_times(
+    rt: HostRuntime,
+    count: u8,
+    times: Times,
+    tasks: [Task; 8],
+) -> Result<(), Error> {
     let entries = times.entries;
     let mut buffer = io::buffer();
     let mut end: usize = 0;
-    let mut place: u8 = 0;
-    while place < 8 && place < count {
-        let entry = entries[place as usize];
-        let line = titles::titled(report::task_line(place, untimed(entry)), tasks, place);
-        end = report::put_line(line, &mut buffer, end);
-        place += 1;
+    for place in 0..8u8 {
+        if place < count {
+            let entry = entries[place as usize];
+            let line = titles::titled(report::task_line(place, untimed(entry)), tasks, place);
+            end = report::put_line(line, &mut buffer, end);
+        }
     }
-    output::write(&buffer, end)
+    output::write(rt, &buffer, end)
 }
 
 // Prints every assured choice of a table.
-fn print_choices(table: Table) -> bool {
+fn print_choices(rt: HostRuntime, table: Table) -> Result<(), Error> {
     let mut list = [0u8; passing::ROOM];
     let listing = assured::list(table, &mut list);
-    passing::print_list(table.count, &list, listing.entries)
+    passing::print_list(rt, table.count, &list, listing.entries)
+}
+
+// Prints the times of so many tasks, and then the choices.
+fn print(rt: HostRuntime, table: Table, times: Times, tasks: [Task; 8]) -> Result<(), Error> {
+    print_times(rt, table.count, times, tasks)?;
+    print_choices(rt, table)
 }
 
 // Prints the answer to a good sheet.
-fn answer(table: Table, tasks: [Task; 8], is_explained: bool) -> u8 {
+fn answer(rt: HostRuntime, table: Table, tasks: [Task; 8], is_explained: bool) -> u8 {
     let times = assured::assured_times(table);
     if times.refusal != 0 {
-        return refusals::print(times.refusal, is_explained);
+        return refusals::print(rt, times.refusal, is_explained);
     }
-    if print_times(table.count, times, tasks) {
-        if print_choices(table) {
-            return endings::of(times.assured);
-        }
+    match print(rt, table, times, tasks) {
+        Ok(()) => endings::of(times.assured),
+        Err(error) => endings::failed(error),
     }
-    endings::failed()
 }
 
 // Assures the sheet that the one word names.
-pub fn run(asked: Asked) -> u8 {
+pub fn run(rt: HostRuntime, asked: Asked) -> u8 {
     if asked.count != 1 {
         return words::trouble(b"assured takes one word, SHEET");
     }
-    let taken = taking::table(asked, words::at(asked, 0));
+    let taken = taking::table(rt, asked, words::at(asked, 0));
     if !taken.is_good {
         return endings::TROUBLE;
     }
     let table = taken.table;
     let tasks = taken.tasks;
-    answer(table, tasks, asked.is_explained)
+    answer(rt, table, tasks, asked.is_explained)
 }
