@@ -8,7 +8,7 @@ use crate::{MISSED, Tally};
 use libc::STDOUT_FILENO;
 
 // The number whose digits stand at a place of a list, and the place after them.
-#[derive(Drop)]
+#[derive(Clone, Copy)]
 pub struct Digits {
     pub value: u64,
     pub end: usize,
