@@ -1,5 +1,7 @@
 // Response times, the verdict and the least fault interval of a timing table, by the equations of documents 01 and 02.
 // Every call answers any table: a refused one gets its number, beside zeros, no, or nothing else.
+#![tactic(auto)]
+
 ghost use Rattle.std.specs.Prelude.{◌≡◌};
 ghost use Rattle.analysis.specs.Published.Answers.{timed_answer, choice_refusal, choice_assessment, own_assessment, interval_answer};
 ghost use Rattle.analysis.specs.ByRule.{rule_refusal, judged_refusal, choice_assessment_by, own_assessment_by, meets_answer, place_refusal, timed_by};
@@ -21,21 +23,21 @@ mod meeting;
 mod published;
 
 // A response time, or late.
-#[derive(Drop)]
+#[derive(Clone, Copy)]
 pub enum Outcome {
     OnTime(u16),
     Late,
 }
 
 // By how many ticks a response is within its deadline, negative where it is past it, or that there is no figure.
-#[derive(Drop)]
+#[derive(Clone, Copy)]
 pub enum Slack {
     Figure(i32),
     NoFigure,
 }
 
 // One record's answer: its deadline beside its response, and the slack.
-#[derive(Drop)]
+#[derive(Clone, Copy)]
 pub struct Entry {
     pub deadline: u16,
     pub outcome: Outcome,
@@ -43,14 +45,14 @@ pub struct Entry {
 }
 
 // What `response_time`, `time_by` and `time_in` answer: the refusal, or 0 beside the record's entry.
-#[derive(Drop)]
+#[derive(Clone, Copy)]
 pub struct Timed {
     pub refusal: u8,
     pub entry: Entry,
 }
 
 // What `assess`, `assess_choice`, both by a rule and `assess_in` answer: the refusal, or 0 beside an entry for each record and whether no task is late.
-#[derive(Drop)]
+#[derive(Clone, Copy)]
 pub struct Assessment {
     pub refusal: u8,
     pub entries: [Entry; 8],
@@ -58,7 +60,7 @@ pub struct Assessment {
 }
 
 // What `least_interval` answers.
-#[derive(Drop)]
+#[derive(Clone, Copy)]
 pub enum Interval {
     Refused(u8),
     Least(u16),
@@ -66,14 +68,14 @@ pub enum Interval {
 }
 
 // The rule that a choice of fault priorities is judged by: the published equations, or the assured equation.
-#[derive(Drop)]
+#[derive(Clone, Copy)]
 pub enum Rule {
     Published,
     Assured,
 }
 
 // The priorities and the backups of a table's records in record order, 0 past the count.
-#[derive(Drop)]
+#[derive(Clone, Copy)]
 pub struct Columns {
     pub priorities: [u8; 8],
     pub backups: [u16; 8],
@@ -81,7 +83,7 @@ pub struct Columns {
 
 // How large a backup each record of a table bears under a rule: the refusal, or 0 beside the count, 0 where no choice meets the rule, the records' priorities and backups in record order, and the limits of each, one more
 // than the largest backup that it bears or 0; for the record at a place as M at 9 times the place, as N under a fault priority q at 9 times the place plus q.
-#[derive(Drop)]
+#[derive(Clone, Copy)]
 pub struct Bounds {
     pub refusal: u8,
     pub count: u8,
@@ -91,7 +93,7 @@ pub struct Bounds {
 }
 
 // What `meets_choice` and `meets_lent` answer: the refusal, or 0 beside yes or no.
-#[derive(Drop)]
+#[derive(Clone, Copy)]
 pub struct Verdict {
     pub refusal: u8,
     pub yes: bool,

@@ -1,5 +1,7 @@
 // The choices of fault priorities that hold in every run, by the assured equation: the assured times of a table, and every assured choice as a walk and as a list.
 // Every call answers any table: a refused one gets its number, 19 for a shared processor after the table's own, beside zeros, no, or nothing else.
+#![tactic(auto)]
+
 ghost use Rattle.std.specs.Prelude.{◌≡◌};
 ghost use Rattle.assured.specs.Answers.{no_entry, without_slack, time_answer, times_answer, step_answer, list_answer, list_leaves};
 
@@ -8,21 +10,21 @@ use choices::{Listing, Stepped, Walk};
 use sheet::Table;
 
 // One record's answer: its deadline beside its assured time, or late where it has none.
-#[derive(Drop)]
+#[derive(Clone, Copy)]
 pub struct Entry {
     pub deadline: u16,
     pub outcome: Outcome,
 }
 
 // What `assured_time` answers: the refusal, or 0 beside the record's entry.
-#[derive(Drop)]
+#[derive(Clone, Copy)]
 pub struct Timed {
     pub refusal: u8,
     pub entry: Entry,
 }
 
 // What `assured_times` answers: the refusal, or 0 beside an entry for each record and whether each has an assured time.
-#[derive(Drop)]
+#[derive(Clone, Copy)]
 pub struct Times {
     pub refusal: u8,
     pub entries: [Entry; 8],

@@ -1,5 +1,7 @@
 // A line's cells: where they begin and end, what separates them, and each as a number or a name.
 // Every call answers any bytes.
+#![tactic(auto)]
+
 ghost use Rattle.std.specs.Prelude.{◌≡◌};
 ghost use Rattle.cells.specs.Cells.{cells_of, part_of, separator_of};
 ghost use Rattle.cells.specs.Numbers.{number_of};
@@ -12,7 +14,7 @@ mod numbers;
 mod spans;
 
 // The cell that is being read: where it begins and ends so far, and whether a double quote is open in it.
-#[derive(Drop)]
+#[derive(Clone, Copy)]
 pub struct Span {
     pub start: usize,
     pub end: usize,
@@ -20,7 +22,7 @@ pub struct Span {
 }
 
 // The first eight cells of a line: how many there are, where each begins and where it ends.
-#[derive(Drop)]
+#[derive(Clone, Copy)]
 pub struct Cells {
     pub count: usize,
     pub starts: [usize; 8],
@@ -28,7 +30,7 @@ pub struct Cells {
 }
 
 // A cell as a number: 0 beside its value, or why it is none.
-#[derive(Drop)]
+#[derive(Clone, Copy)]
 pub struct Number {
     pub refusal: u8,
     pub value: u64,
@@ -36,7 +38,7 @@ pub struct Number {
 
 // A column's name in small letters: what is being read of it (0 its letters, 1 a unit in brackets, 2 what stands after them), how many
 // letters it has, 17 where it has more than sixteen, and these.
-#[derive(Drop)]
+#[derive(Clone, Copy)]
 pub struct Label {
     pub stage: u8,
     pub length: u8,
@@ -44,14 +46,14 @@ pub struct Label {
 }
 
 // A task's name: its length and its bytes, zeros after them.
-#[derive(Drop)]
+#[derive(Clone, Copy)]
 pub struct Name {
     pub length: u8,
     pub bytes: [u8; 32],
 }
 
 // A task's name that is being read: its refusal or 0, whether the last byte was the first of two quotes, and the name so far.
-#[derive(Drop)]
+#[derive(Clone, Copy)]
 pub struct Spelling {
     pub refusal: u8,
     pub odd: bool,
@@ -59,7 +61,7 @@ pub struct Spelling {
 }
 
 // A cell as a task's name: 0 beside it, or why it is none.
-#[derive(Drop)]
+#[derive(Clone, Copy)]
 pub struct Named {
     pub refusal: u8,
     pub name: Name,

@@ -1,4 +1,6 @@
 // Every choice of fault priorities that meets a rule, as the passing ones do: the walk from choice to choice, and the whole list.
+#![tactic(auto)]
+
 ghost use Rattle.std.specs.Prelude.{◌≡◌};
 ghost use Rattle.choices.specs.Answers.{start_walk, step_by, step_answer, list_by, leaves_by, list_answer, list_leaves};
 
@@ -9,13 +11,13 @@ mod lister;
 mod odometer;
 
 // Where a walk stands: one fault priority for each record, all zero before the first choice.
-#[derive(Drop)]
+#[derive(Clone, Copy)]
 pub struct Walk {
     pub entries: [u8; 8],
 }
 
 // What a step comes to.
-#[derive(Drop)]
+#[derive(Clone, Copy)]
 pub enum Arrival {
     Found,
     End,
@@ -23,14 +25,14 @@ pub enum Arrival {
 }
 
 // What `step` answers: the next walk, and what the step came to.
-#[derive(Drop)]
+#[derive(Clone, Copy)]
 pub struct Stepped {
     pub walk: Walk,
     pub arrival: Arrival,
 }
 
 // What `list` answers: the refusal, or 0 beside the number of entries.
-#[derive(Drop)]
+#[derive(Clone, Copy)]
 pub struct Listing {
     pub refusal: u8,
     pub entries: usize,

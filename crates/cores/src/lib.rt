@@ -1,5 +1,7 @@
 // Boxes with several cores: each record of a sheet is put on the lowest-numbered core where that core's tasks still pass.
 // The call answers any bytes and any number; a refusal gives its number.
+#![tactic(auto)]
+
 ghost use Rattle.std.specs.Prelude.{◌≡◌};
 ghost use Rattle.places.specs.Refusals.{or_else};
 ghost use Rattle.cores.specs.Answers.{number_refusal, placing_answer};
@@ -8,7 +10,7 @@ mod fitting;
 mod tables;
 
 // What becomes of a sheet: refused with the number, a core for every record, or the first record, from 1, that fits none.
-#[derive(Drop)]
+#[derive(Clone, Copy)]
 pub enum Fit {
     Refused(u8),
     Everyone,
@@ -16,7 +18,7 @@ pub enum Fit {
 }
 
 // What `place` answers: where every record has its core, those cores from 1 in record order, zero past the count; else zeros.
-#[derive(Drop)]
+#[derive(Clone, Copy)]
 pub struct Placing {
     pub fit: Fit,
     pub cores: [u8; 8],

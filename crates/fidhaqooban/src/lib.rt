@@ -1,6 +1,8 @@
 // The desk for firmware: its calls under the names and in the numbers of C. A refused call answers minus the refusal number.
 // Each function is thin: it reads the sheet, asks the crate that answers, and turns the answer into a number. The table of a refused sheet is
 // zeros, which every call refuses too and leaves an output for as it was; of the two refusals the sheet's is told.
+#![tactic(auto)]
+
 ghost use Rattle.std.specs.Prelude.{◌≡◌};
 ghost use Rattle.sheet.specs.Rules.{sheet_refusal};
 ghost use Rattle.fidhaqooban.specs.Answers.{write_shared_number, write_shared_left, write_number, write_left, rewrite_number, rewrite_left, record_number, response_number, slack_number, slack_left, verdict_number, times_number, times_left, interval_number, next_number, list_number, list_left, assured_number, assured_next_number, assured_list_number, assured_list_left, replay_number, replay_left, check_number, mend_number, mend_left, mend_listed, cores_number, cores_left, release_number};

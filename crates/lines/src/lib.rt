@@ -1,5 +1,7 @@
 // What a line of a text says: a setting, the columns, a task; what is read of a text line by line, and the figures at its end.
 // Every call answers any bytes and any reading.
+#![tactic(auto)]
+
 ghost use Rattle.std.specs.Prelude.{◌≡◌};
 ghost use Rattle.lines.specs.Troubles.{after, no_reading};
 ghost use Rattle.lines.specs.Answers.{line_taken, answer_at};
@@ -15,7 +17,7 @@ mod setting_lines;
 mod task_lines;
 
 // Up to 20 bytes of what stands at a place, zeros after them.
-#[derive(Drop)]
+#[derive(Clone, Copy)]
 pub struct Excerpt {
     pub length: u8,
     pub bytes: [u8; 20],
@@ -23,7 +25,7 @@ pub struct Excerpt {
 
 // What is not understood: 0 or its number, its line and column, its column by name (1 priority, 2 fault priority, 3 cost, 4 backup,
 // 5 deadline, 6 period, 7 task, 0 none), what stands there, and the task's name as far as it is known.
-#[derive(Drop)]
+#[derive(Clone, Copy)]
 pub struct Trouble {
     pub refusal: u8,
     pub line: u64,
@@ -34,14 +36,14 @@ pub struct Trouble {
 }
 
 // The settings so far, at 1 the interval, at 2 the round, at 3 the share: whether each is given, and its value.
-#[derive(Drop)]
+#[derive(Clone, Copy)]
 pub struct Settings {
     pub given: [bool; 4],
     pub values: [u64; 4],
 }
 
 // The text's separator, 0 before it is known; how many cells a task's line has, which column each is, and which columns there are.
-#[derive(Drop)]
+#[derive(Clone, Copy)]
 pub struct Layout {
     pub separator: u8,
     pub width: u8,
@@ -50,7 +52,7 @@ pub struct Layout {
 }
 
 // A task of a text: its line, its numbers (priority, fault priority, cost, backup, deadline, period), and its name.
-#[derive(Drop)]
+#[derive(Clone, Copy)]
 pub struct Task {
     pub line: u64,
     pub numbers: [u64; 6],
@@ -58,7 +60,7 @@ pub struct Task {
 }
 
 // What is read of a text so far, the task of the line that is being read among it.
-#[derive(Drop)]
+#[derive(Clone, Copy)]
 pub struct Reading {
     pub trouble: Trouble,
     pub settings: Settings,
@@ -69,7 +71,7 @@ pub struct Reading {
 }
 
 // The figures of a text, of any size up to 64 bits; filled says which columns were filled in (1 fault priorities, 2 deadlines, 3 both).
-#[derive(Drop)]
+#[derive(Clone, Copy)]
 pub struct Figures {
     pub count: u8,
     pub interval: u64,
@@ -80,7 +82,7 @@ pub struct Figures {
 }
 
 // What a text is understood as: its figures, or what is not understood.
-#[derive(Drop)]
+#[derive(Clone, Copy)]
 pub struct Understood {
     pub trouble: Trouble,
     pub figures: Figures,

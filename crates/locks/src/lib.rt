@@ -1,5 +1,7 @@
 // Locks beside fixed starts: whether a sporadic task may have a resource, that is whether the length it asks for fits into the free ticks before the next start that uses it, and by what margin.
 // The call answers any start table, any resources and any request by value; a refusal gives its number, not granted, and margin 0.
+#![tactic(auto)]
+
 ghost use Rattle.std.specs.Prelude.{◌≡◌};
 ghost use Rattle.locks.specs.Answers.{grant_answer};
 
@@ -12,7 +14,7 @@ mod rules;
 mod running;
 
 // A started job: when in each period it starts, how many ticks it runs, and the resources that it uses, resource r as bit r.
-#[derive(Drop)]
+#[derive(Clone, Copy)]
 pub struct Job {
     pub offset: u32,
     pub length: u32,
@@ -20,7 +22,7 @@ pub struct Job {
 }
 
 // A start table: the control period, the count of jobs, and room for eight, in any order; those past the count are ignored.
-#[derive(Drop)]
+#[derive(Clone, Copy)]
 pub struct Starts {
     pub period: u32,
     pub count: u8,
@@ -28,14 +30,14 @@ pub struct Starts {
 }
 
 // A resource: its sporadic users, priority p as bit p - 1, and the priority of its holder, 0 where nobody holds it.
-#[derive(Drop)]
+#[derive(Clone, Copy)]
 pub struct Resource {
     pub users: u8,
     pub holder: u8,
 }
 
 // What a sporadic task of a priority asks for at a time: a resource, for so many ticks.
-#[derive(Drop)]
+#[derive(Clone, Copy)]
 pub struct Request {
     pub priority: u8,
     pub time: u64,
@@ -44,7 +46,7 @@ pub struct Request {
 }
 
 // What `grant` answers: the refusal, or 0 beside whether the resource is granted and the margin.
-#[derive(Drop)]
+#[derive(Clone, Copy)]
 pub struct Granting {
     pub refusal: u8,
     pub granted: bool,

@@ -1,6 +1,8 @@
 // Hand-typed sheets mended: bytes after the last record cut, deadlines brought down to their period, fault priorities brought to the task's
 // own; each change listed, and nothing else touched.
 // The call answers any bytes; a refusal gives its number, and zeros and an empty list beside it.
+#![tactic(auto)]
+
 ghost use Rattle.std.specs.Prelude.{◌≡◌};
 ghost use Rattle.mend.specs.Answers.{mend_answer, mend_leaves};
 ghost use Rattle.mend.specs.Steps.{refused_with};
@@ -9,7 +11,7 @@ mod listing;
 mod records;
 
 // What a change is made to: the sheet's length, or a record's deadline or fault priority.
-#[derive(Drop)]
+#[derive(Clone, Copy)]
 pub enum Field {
     Length,
     Deadline,
@@ -17,7 +19,7 @@ pub enum Field {
 }
 
 // One change: the record's place, from 1, or 0 for the length; the field; its old and its new value.
-#[derive(Drop)]
+#[derive(Clone, Copy)]
 pub struct Change {
     pub place: u8,
     pub field: Field,
@@ -26,14 +28,14 @@ pub struct Change {
 }
 
 // How many changes there are, and room for seventeen; those past the count are zero.
-#[derive(Drop)]
+#[derive(Clone, Copy)]
 pub struct Changes {
     pub count: u8,
     pub list: [Change; 17],
 }
 
 // What `mend` answers: the refusal, or 0 beside the number of bytes written and the changes.
-#[derive(Drop)]
+#[derive(Clone, Copy)]
 pub struct Mending {
     pub refusal: u8,
     pub written: usize,

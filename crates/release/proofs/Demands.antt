@@ -146,14 +146,14 @@ module _ (in_use candidate : Bor (List ℕ)) (protected : ℕ) (part : Bor (List
   hands-in-use none keeps = record { place = handed.place ∙ simp keeps; content = handed.content ∙ simp (eq-eqb _ 0 none, keeps) }
 
   -- refused, the empty part at the start of the sheet in use
-  pub hands-nothing : (answer.refusal ≡ 0 → ⊥) → (part.ref_ptr ≡ in_use.ptr) × (part.now ≡ [])
+  pub hands-nothing : (answer.refusal ≡ 0 → ⊥) → (part.ref_ptr ≡ in_use.ref_ptr) × (part.now ≡ [])
   hands-nothing broken = (handed.place ∙ simp (refused-keeps in_use.now candidate.now protected broken), handed.content ∙ simp (ne_eqb _ 0 broken))
 
   -- the part handed back is one of the two sheets, byte for byte, or empty
-  pub hands-one : WholeOf candidate part ⊎ (WholeOf in_use part ⊎ ((part.ref_ptr ≡ in_use.ptr) × (part.now ≡ [])))
+  pub hands-one : WholeOf candidate part ⊎ (WholeOf in_use part ⊎ ((part.ref_ptr ≡ in_use.ref_ptr) × (part.now ≡ [])))
   hands-one = go (ℕ_discrete answer.refusal 0) answer.loads refl
     where
-      go : Dec (answer.refusal ≡ 0) → (b : Bool) → answer.loads ≡ b → WholeOf candidate part ⊎ (WholeOf in_use part ⊎ ((part.ref_ptr ≡ in_use.ptr) × (part.now ≡ [])))
+      go : Dec (answer.refusal ≡ 0) → (b : Bool) → answer.loads ≡ b → WholeOf candidate part ⊎ (WholeOf in_use part ⊎ ((part.ref_ptr ≡ in_use.ref_ptr) × (part.now ≡ [])))
       go (yes none) true e = inl (hands-candidate e)
       go (yes none) false e = inr (inl (hands-in-use none e))
       go (no broken) b e = inr (inr (hands-nothing broken))

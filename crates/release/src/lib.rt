@@ -1,19 +1,21 @@
 // The release desk: which of two sheets a box loads, the one in use or a candidate.
 // The candidate is loaded exactly if it passes and no protected task's response grows; whatever is refused leaves the box as it is.
+#![tactic(auto)]
+
 ghost use Rattle.std.specs.Prelude.{◌≡◌};
 ghost use Rattle.release.specs.Answers.{decision, Handed, Loaded};
 
 mod deciding;
 
 // What `decide` answers: the refusal, or 0 beside whether the candidate is to be loaded.
-#[derive(Drop)]
+#[derive(Clone, Copy)]
 pub struct Decision {
     pub refusal: u8,
     pub loads: bool,
 }
 
 // What `load` answers: the refusal, or 0 beside the sheet to load.
-#[derive(Drop)]
+#[derive(Clone, Copy)]
 pub struct Loading<'a> {
     pub refusal: u8,
     pub part: &'a [u8],

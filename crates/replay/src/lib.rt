@@ -1,6 +1,8 @@
 // Replay of the box's log: the machine tick by tick, the rules that a log is judged by, and the seven counts; and whether a supplier's
 // record shows what the machine does; both whole, or in pieces of any length.
 // Every call answers any bytes and any machine; a refusal gives its number, and zeros beside it.
+#![tactic(auto)]
+
 ghost use Rattle.std.specs.Prelude.{◌≡◌};
 ghost use Rattle.replay.specs.Ticks.Machines.{counts_of};
 ghost use Rattle.replay.specs.Logs.Answers.{start_answer, go_on_answer, replay_answer, check_answer};
@@ -15,7 +17,7 @@ mod ticks;
 
 // The cell of a slot: whether its job is a backup, the ticks of work that the job has left (0: there is no job), the ticks until its
 // deadline, and the ticks until the next legal release.
-#[derive(Drop)]
+#[derive(Clone, Copy)]
 pub struct Cell {
     pub is_backup: bool,
     pub left: u16,
@@ -24,7 +26,7 @@ pub struct Cell {
 }
 
 // What the ticks so far come to.
-#[derive(Drop)]
+#[derive(Clone, Copy)]
 pub struct Tally {
     pub first_attempts: u64,
     pub backups: u64,
@@ -35,7 +37,7 @@ pub struct Tally {
 }
 
 // The seven counts: ticks of first attempts, backups and idling; jobs released, finished, missed and unfinished.
-#[derive(Drop)]
+#[derive(Clone, Copy)]
 pub struct Counts {
     pub first_attempts: u64,
     pub backups: u64,
@@ -49,7 +51,7 @@ pub struct Counts {
 // The machine between two ticks: the count of tasks, the fault interval, the tasks by priority (slot k is priority k + 1), the cells of
 // the slots, the priorities of their ready jobs as bits (priority 8 the most significant), the ticks until the next legal fault, and what the
 // ticks so far come to. A call that runs ticks goes by the jobs, whatever priorities it is handed.
-#[derive(Drop)]
+#[derive(Clone, Copy)]
 pub struct Machine {
     pub count: u8,
     pub interval: u16,
@@ -61,21 +63,21 @@ pub struct Machine {
 }
 
 // What `start` and `go_on` answer: the refusal, or 0 beside the machine.
-#[derive(Drop)]
+#[derive(Clone, Copy)]
 pub struct Run {
     pub refusal: u8,
     pub machine: Machine,
 }
 
 // What `replay` answers: the refusal, or 0 beside the counts.
-#[derive(Drop)]
+#[derive(Clone, Copy)]
 pub struct Replayed {
     pub refusal: u8,
     pub counts: Counts,
 }
 
 // What `check` answers: refused with the number, accepted, or the first tick, from 0, that differs.
-#[derive(Drop)]
+#[derive(Clone, Copy)]
 pub enum Checked {
     Refused(u8),
     Accepted,
@@ -85,7 +87,7 @@ pub enum Checked {
 // A log or a supplier's record of which any number of bytes have been taken: whether it is a record; the sheet's refusal, and the first
 // that a tick was refused for, or 0; the machine after the ticks that were run; how many ticks showed what they must before one that
 // did not, and whether there was one; and how many bytes of an unfinished tick are held, with its releases and its faults.
-#[derive(Drop)]
+#[derive(Clone, Copy)]
 pub struct Following {
     pub is_record: bool,
     pub start: u8,

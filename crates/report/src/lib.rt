@@ -1,4 +1,6 @@
 // The program's lines as bytes: one call for each kind of line, which answers any arguments with the whole line and its newline, and one that puts a line into an output.
+#![tactic(auto)]
+
 ghost use Rattle.std.specs.Prelude.{◌≡◌};
 ghost use Rattle.report.specs.Texts.{line_of, named_text, saying_text, task_text, choice_text, core_text, change_text, line_change_text, refused_at_text};
 ghost use Rattle.report.specs.Pages.{put_end, put_leaves};
@@ -11,7 +13,7 @@ mod composing;
 mod page;
 
 // A line: its text at the start of the bytes, and the text's length. The bytes after it are zero.
-#[derive(Drop)]
+#[derive(Clone, Copy)]
 pub struct Line {
     pub bytes: [u8; 88],
     pub len: usize,
@@ -19,7 +21,7 @@ pub struct Line {
 
 // What the number of a line is: the fault interval or the least one, the number of choices, a refusal, a count of a replay, the tick in
 // which a record differs, the place of the record that fits no core.
-#[derive(Drop)]
+#[derive(Clone, Copy)]
 pub enum Name {
     Interval,
     Least,
@@ -37,7 +39,7 @@ pub enum Name {
 }
 
 // An answer that is words only: no interval, a record that is accepted, which sheet to load.
-#[derive(Drop)]
+#[derive(Clone, Copy)]
 pub enum Saying {
     NoInterval,
     Accepted,

@@ -2,6 +2,8 @@
 // letters for what it is about and for its form, the figures that it starts from, a bar, its name, a bar, and what is to be answered, as it is to be written.
 // Every call answers any list. What a call writes goes to standard output and is no part of its answer: where a part of an answer
 // ends in the list, a figure of a row, a table, or the tally; of a part that does not stand in the list the end is `MISSED`.
+#![tactic(auto)]
+
 mod list;
 mod tables;
 
@@ -30,7 +32,7 @@ pub const TABLE_A_AND_RUBBISH: [u8; 148] = *b"A 3 9 4 4 12 12 3 3 3 3 20 20 2 2 
 pub const TABLE_LONE: [u8; 18] = *b"1 1 2 1 1 2 2 1 1|";
 
 // How many rows were run, and how many of them did not answer as expected.
-#[derive(Drop)]
+#[derive(Clone, Copy)]
 pub struct Tally {
     pub rows: u64,
     pub differ: u64,

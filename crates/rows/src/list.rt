@@ -7,7 +7,7 @@ ghost use Rattle.rows.specs.Tallies.{counted, more};
 use crate::{MISSED, STDOUT_FILENO, Tally};
 
 // The number whose digits stand at a place of a list, and the place after them.
-#[derive(Drop)]
+#[derive(Clone, Copy)]
 pub struct Digits {
     pub value: u64,
     pub end: usize,

@@ -2,6 +2,8 @@
 // prints each with its answer: about sheets, times, lists and walks of choices, and printed lines.
 // A line that ends in EXPECTED and what was expected is a row that differs; the last line counts the rows and those that differ.
 // A row begins with two letters: the first for what it is about, the second for its form, whose figures stand at the form's function.
+#![tactic(auto)]
+
 mod chosen_tables;
 mod lines;
 mod lists;

@@ -1,5 +1,7 @@
 // Timing sheets in both editions: records and tables, the rules they are judged by, the readers, into a table and into columns by rank, the writer, and one record's own bytes.
 // Every call answers any bytes, numbers and tables; a refusal gives its number, and zeros or an empty part beside it.
+#![tactic(auto)]
+
 ghost use Rattle.std.specs.Prelude.{◌≡◌};
 ghost use Rattle.sheet.specs.Layout.{no_record, no_table, is_whole};
 ghost use Rattle.sheet.specs.Rules.{figures_refusal, sheet_refusal, table_refusal, whole_refusal};
@@ -10,7 +12,7 @@ mod layout;
 mod rules;
 
 // One task's record.
-#[derive(Drop)]
+#[derive(Clone, Copy)]
 pub struct Record {
     pub cost: u16,
     pub backup: u16,
@@ -21,7 +23,7 @@ pub struct Record {
 }
 
 // A count, the fault interval, the round and our share of it, and room for eight records; those past the count are ignored, and zero when read.
-#[derive(Drop)]
+#[derive(Clone, Copy)]
 pub struct Table {
     pub count: u8,
     pub interval: u16,
@@ -31,28 +33,28 @@ pub struct Table {
 }
 
 // What `said_size` answers: the refusal, or 0 beside the bytes that the sheet has by its header.
-#[derive(Drop)]
+#[derive(Clone, Copy)]
 pub struct Said {
     pub refusal: u8,
     pub size: usize,
 }
 
 // What `judge_table_at` answers: the refusal, or 0; beside a refusal of rules 6 to 10 the place of the record that breaks the rule, else 0.
-#[derive(Drop)]
+#[derive(Clone, Copy)]
 pub struct Judged {
     pub refusal: u8,
     pub place: usize,
 }
 
 // What `read`, `read_unjudged` and `read_whole` answer: the refusal, or 0 beside the table.
-#[derive(Drop)]
+#[derive(Clone, Copy)]
 pub struct Reading {
     pub refusal: u8,
     pub table: Table,
 }
 
 // What `read_ranked` answers: the refusal, or 0 beside the count, the fault interval, the round and our share of it.
-#[derive(Drop)]
+#[derive(Clone, Copy)]
 pub struct Ranked {
     pub refusal: u8,
     pub count: u8,
@@ -62,21 +64,21 @@ pub struct Ranked {
 }
 
 // What `write` and `rewrite` answer: the refusal, or 0 beside the number of bytes written.
-#[derive(Drop)]
+#[derive(Clone, Copy)]
 pub struct Writing {
     pub refusal: u8,
     pub written: usize,
 }
 
 // What `record_start` answers: the refusal, or 0 beside the byte at which the record's nine start.
-#[derive(Drop)]
+#[derive(Clone, Copy)]
 pub struct Start {
     pub refusal: u8,
     pub start: usize,
 }
 
 // What `record_of` answers: the refusal, or 0 beside the record's nine bytes within the lent sheet.
-#[derive(Drop)]
+#[derive(Clone, Copy)]
 pub struct Excerpt<'a> {
     pub refusal: u8,
     pub part: &'a [u8],

@@ -1,5 +1,7 @@
 // Sheets as text: what a person types or pastes from a spreadsheet, read in pieces of any length, scaled to a table, and the text of a table.
 // Every call answers any bytes, scans, figures and tables; a refusal gives its number, with its place where it is the text's own, and zeros beside it.
+#![tactic(auto)]
+
 ghost use Rattle.std.specs.Prelude.{◌≡◌};
 ghost use Rattle.text.specs.Texts.{scan_start, scanned};
 ghost use Rattle.text.specs.Answers.{understood, read_answer, show_answer, show_leaves};
@@ -17,7 +19,7 @@ mod scaling;
 
 // A text so far: what its lines said, and the line that is being gathered: its number, how many bytes of it are held, whether a double
 // quote is open, whether it is in a comment, whether it has more bytes than are held, and these.
-#[derive(Drop)]
+#[derive(Clone, Copy)]
 pub struct Scan {
     pub reading: Reading,
     pub line: u64,
@@ -29,7 +31,7 @@ pub struct Scan {
 }
 
 // What `scaled` answers: 0 beside the table, or the refusal, for 31 beside the least scale that makes all fit.
-#[derive(Drop)]
+#[derive(Clone, Copy)]
 pub struct Fitted {
     pub refusal: u8,
     pub least: u64,
@@ -37,14 +39,14 @@ pub struct Fitted {
 }
 
 // A name in quotes as it is being put: how many bytes there are, and these, blanks after them.
-#[derive(Drop)]
+#[derive(Clone, Copy)]
 pub struct Quote {
     pub at: usize,
     pub bytes: [u8; 66],
 }
 
 // What `show` answers: the refusal, or 0 beside the number of bytes written.
-#[derive(Drop)]
+#[derive(Clone, Copy)]
 pub struct Shown {
     pub refusal: u8,
     pub size: usize,

@@ -1,5 +1,7 @@
 // Takes ten thousand random sheets of both editions through their text and back, as it is shown and with other separators and orders of
 // columns, and counts those whose bytes are not the same again.
+#![tactic(auto)]
+
 mod drawing;
 mod turned;
 

@@ -16,7 +16,7 @@ pub const LONGEST: u16 = 65535;
 const PLAIN: u8 = 8;
 
 // A trial of a climb, and how many more are followed by what they ask.
-#[derive(Drop)]
+#[derive(Clone, Copy)]
 pub struct Trial {
     pub length: u64,
     pub plain: u8,

@@ -12,7 +12,7 @@ use crate::common::load;
 const UNIT: u64 = 16777216;
 
 // What a jump has taken: the sum of the rates, what the trial is asked besides, the longest length found, and the backup of the faults until they are taken.
-#[derive(Drop)]
+#[derive(Clone, Copy)]
 pub struct Taken {
     pub rate: u64,
     pub rest: u64,

@@ -14,7 +14,7 @@ use crate::{Cell, Following, Tally};
 // What the ticks so far have changed beside the cells: the first refusal of a tick, or 0; the ticks that showed what they must, and
 // whether one did not; the ticks until the next legal fault; the counts; and the priority of the task that ran last, with whether a job
 // has come or gone since it was found.
-#[derive(Drop)]
+#[derive(Clone, Copy)]
 pub struct Headway {
     pub broken: u8,
     pub same: u64,
@@ -26,7 +26,7 @@ pub struct Headway {
 }
 
 // The bytes of a tick: its releases, its faults and, of a record, what ran in it; a log's has no third, and its second stands for it.
-#[derive(Drop)]
+#[derive(Clone, Copy)]
 pub struct Tick {
     pub releases: u8,
     pub faults: u8,

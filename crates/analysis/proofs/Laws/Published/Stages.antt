@@ -94,7 +94,9 @@ module _ (s : Tasks) (i : ℕ) (own : s.fault i ≡ (s.at i).priority) (often : 
   nobody-between : (L n : ℕ) → sum_below (λ k. cond (is_between s i (s.fault i) k) ((1 + up L (s.at k).period) * (s.at k).cost) 0) n ≡ 0
   unfolding sum_below is_between
   nobody-between L zero = refl
-  nobody-between L (suc n) = rw (own, none_between (s.at i).priority (s.at n).priority) (omega (arith, rw own at (nobody-between L n)))
+  nobody-between L (suc n) =
+      let here : cond (is_between s i (s.fault i) n) ((1 + up L (s.at n).period) * (s.at n).cost) 0 ≡ 0 = rw (own, none_between (s.at i).priority (s.at n).priority) refl in
+      omega (arith, here, nobody-between L n)
 
   itself-is : (L : ℕ) → struck_itself s i L ≡ (s.at i).cost + stage_one s i L
   unfolding struck_itself asked_itself is_between above

@@ -1,0 +1,12 @@
+-- `choices::odometer::all_allowed` meets its contract: those passed are allowed. Assumes nothing.
+use Prim.Native.Nat.{◌-◌, ◌≤◌}
+use mathlib.Core.Path.{◌≡◌}
+use lib.ListN.{drop}
+use Rattle.analysis.specs.Common.Allowed.{all_allowed}
+use Rattle.choices.proofs.odometer.all_allowed.Given as goal
+
+abbrev pub invariant-loop-place : goal.invariant-loop-place
+invariant-loop-place l = (l.place ≤ 8) × (all_allowed l.priorities l.choice ≡ all_allowed (drop l.place l.priorities) (drop l.place l.choice))
+
+abbrev pub decreases-loop-place : goal.decreases-loop-place
+decreases-loop-place l = 8 - l.place

@@ -1,0 +1,7 @@
+-- `lines::finding::start_of` meets its contract. Assumes nothing.
+use Rattle.lines.specs.Troubles.{start_of}
+use Rattle.lines.proofs.finding.start_of.Goals as goal
+
+pub returns : goal.returns
+unfolding start_of
+returns c = c.place_at.ensures

@@ -1,0 +1,7 @@
+-- `lines::setting_lines::is_given` meets its contract. Assumes nothing.
+use Rattle.lines.specs.Settings.{is_given}
+use Rattle.lines.proofs.setting_lines.is_given.Goals as goal
+
+pub returns : goal.returns
+unfolding is_given
+returns c = c.answer_at.ensures

@@ -1,0 +1,7 @@
+-- `lines::setting_lines::pair_read_lem` meets its contract. Assumes nothing.
+use Rattle.lines.specs.Settings.{pair_read}
+use Rattle.lines.proofs.setting_lines.pair_read.Goals as goal
+
+pub returns : goal.returns
+unfolding pair_read
+returns c = simp (← c.start_of.ensures, ← c.end_of.ensures, ← c.setting_to-next.ensures) c.share_after.ensures
