@@ -35,7 +35,13 @@ pub fn print_at(rt: HostRuntime, refusal: u8, line: u64, column: u64) -> u8 {
 }
 
 // Prints the refusal of one of two sheets.
-pub fn print_called(rt: HostRuntime, called: &[u8], given: Given, refusal: u8, is_explained: bool) -> u8 {
+pub fn print_called(
+    rt: HostRuntime,
+    called: &[u8],
+    given: Given,
+    refusal: u8,
+    is_explained: bool,
+) -> u8 {
     let ending = line(rt, refusal);
     if is_explained {
         explanation::print_of(called, sheets::unjudged(given), refusal);

@@ -3,6 +3,7 @@
 // Its first argument may ask for more: `status` for how the command ended, as a digit on descriptor 3, and `explain` for that and for a
 // refusal in words on standard error.
 #![tactic(auto)]
+
 mod commands;
 mod options;
 

@@ -2,6 +2,7 @@
 // Its first argument may ask for more, as the desk's may: `status` for how it ended, as a digit on descriptor 3, and `explain` for that and
 // for a refusal in words on standard error.
 #![tactic(auto)]
+
 use console::judging;
 use streams::{endings, words};
 
@@ -22,5 +23,8 @@ fn run(rt: HostRuntime, first: u8, is_explained: bool) -> u8 {
 
 fn main(rt: HostRuntime) {
     let word = endings::asked(rt);
-    endings::tell(word, run(rt, endings::first(word), word == endings::EXPLAIN));
+    endings::tell(
+        word,
+        run(rt, endings::first(word), word == endings::EXPLAIN),
+    );
 }

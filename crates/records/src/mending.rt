@@ -55,12 +55,7 @@ fn print<P: Print>(stream: &P, changes: Changes, tasks: [Task; 8]) -> Result<(),
 }
 
 // Prints the changes. Where the sheet goes to standard output, they go to standard error.
-fn tell(
-    rt: HostRuntime,
-    place: usize,
-    changes: Changes,
-    tasks: [Task; 8],
-) -> Result<(), Error> {
+fn tell(rt: HostRuntime, place: usize, changes: Changes, tasks: [Task; 8]) -> Result<(), Error> {
     if saving::is_output(rt, place) {
         let _ = print(&rt.stderr(), changes, tasks);
         return Ok(());

@@ -52,7 +52,11 @@ fn answer_log(rt: HostRuntime, given: Given, following: Following, is_explained:
 fn answer_record(rt: HostRuntime, given: Given, following: Following, is_explained: bool) -> u8 {
     match following.checked() {
         Checked::Refused(refusal) => refusals::print_of(rt, given, refusal, is_explained),
-        Checked::Accepted => output::line(rt, report::saying_line(Saying::Accepted), endings::HOLDS),
+        Checked::Accepted => output::line(
+            rt,
+            report::saying_line(Saying::Accepted),
+            endings::HOLDS,
+        ),
         Checked::Differs(tick) => {
             output::line(rt, report::named_line(Name::Differs, tick), endings::FAILS)
         }

@@ -20,12 +20,7 @@ fn untimed(given: assured::Entry) -> Entry {
 }
 
 // Prints a line for each of so many tasks.
-fn print_times(
-    rt: HostRuntime,
-    count: u8,
-    times: Times,
-    tasks: [Task; 8],
-) -> Result<(), Error> {
+fn print_times(rt: HostRuntime, count: u8, times: Times, tasks: [Task; 8]) -> Result<(), Error> {
     let entries = times.entries;
     let mut buffer = io::buffer();
     let mut end: usize = 0;

@@ -16,7 +16,11 @@ fn answer(rt: HostRuntime, table: Table, is_explained: bool) -> u8 {
             report::named_line(Name::Least, interval as u64),
             endings::HOLDS,
         ),
-        Interval::Nothing => output::line(rt, report::saying_line(Saying::NoInterval), endings::FAILS),
+        Interval::Nothing => output::line(
+            rt,
+            report::saying_line(Saying::NoInterval),
+            endings::FAILS,
+        ),
     }
 }
 

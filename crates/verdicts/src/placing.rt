@@ -47,7 +47,11 @@ fn answer(rt: HostRuntime, source: Source, number: u8, is_explained: bool) -> u8
         }
         Fit::FitsNone(place) => {
             let line = report::named_line(Name::FitsNone, place as u64);
-            output::line(rt, titles::titled_from_1(line, tasks, place), endings::FAILS)
+            output::line(
+                rt,
+                titles::titled_from_1(line, tasks, place),
+                endings::FAILS,
+            )
         }
     }
 }

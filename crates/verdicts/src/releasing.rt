@@ -95,7 +95,11 @@ fn answer(
         return refused(rt, in_use, candidate, decision.refusal, is_explained);
     }
     if decision.loads {
-        return output::line(rt, report::saying_line(Saying::LoadCandidate), endings::HOLDS);
+        return output::line(
+            rt,
+            report::saying_line(Saying::LoadCandidate),
+            endings::HOLDS,
+        );
     }
     output::line(rt, report::saying_line(Saying::LoadInUse), endings::FAILS)
 }

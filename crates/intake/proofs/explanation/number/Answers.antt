@@ -1,10 +1,6 @@
--- `intake::explanation::number` meets its contract: the place is that of a record, or 0. Assumes nothing.
-use Prim.Native.Nat.{ℕ, ◌+◌, ◌≤◌, ◌<◌}
-use mathlib.Core.Path.{◌≡◌, refl, ap}
-use mathlib.Core.Bool.{Bool, true, false}
-use mathlib.Core.Logic.{inl, inr}
+-- The place that is told is that of a record, or 0. Assumes nothing.
+use Rattle.std.proofs.Common.{◌≡◌, ℕ, ◌+◌, ◌≤◌, ◌<◌, refl, ap, Bool, true, false, inl, inr, arith}
 use native.Mathlib.Decide.{dec_lt}
-use native.Mathlib.Omega.{arith}
 use Rattle.places.proofs.Refusals.{first_of}
 use Rattle.sheet.specs.declared.Table.{Table}
 use Rattle.sheet.specs.declared.Judged.{Judged}
@@ -12,9 +8,7 @@ use Rattle.sheet.specs.Rules.{outside, figures_refusal, table_refusal, broken_pl
 use Rattle.sheet.specs.Answers.{judged_answer}
 use Rattle.sheet.proofs.Cases.{within, figures-2}
 use Rattle.sheet.proofs.Demands.{broken-record, no-broken-record}
-use borrow.Author.Rules.{rules}
-use Rattle.intake.proofs.explanation.number.Statement.{statement}
-use Rattle.intake.proofs.explanation.number.Tie as tie
+use Rattle.intake.proofs.explanation.number.Goals as goal
 
 -- a table that is refused for a record has a count that is 8 at most
 counted : (t : Table) → 6 ≤ table_refusal t → (b : Bool) → outside t.count 8 ≡ b → t.count ≤ 8
@@ -41,18 +35,8 @@ place : (judged : Judged) (t : Table) → judged ≡ judged_answer t → judged.
 unfolding judged_answer
 place judged t e = ap (λ (r : Judged). r.place) e
 
-judge-table-at-requires : tie.Need-judge-table-at-requires
-judge-table-at-requires c κs = search rules
+pub overflow_add-result : goal.overflow_add-result
+overflow_add-result c = omega (arith, place _ c.args.table c.judge_table_at.ensures, low c.args.table)
 
--- the place that was told
-told : (c : tie.After-judge-table-at) → c.judge-table-at.result.place ≡ broken_place c.before.args.table
-told c = place _ c.before.args.table c.judge-table-at.ensures
-
-add-result : tie.Need-overflow-add-result
-add-result c = omega (arith, told c, low c.before.args.table)
-
-returns : tie.Need-returns
-returns c = ap (λ (n : ℕ). n + 1) (told c)
-
-pub number-spec : {M : Type 1} → statement M
-number-spec = tie.close (tie.spec judge-table-at-requires add-result returns)
+pub returns : goal.returns
+returns c = ap (λ (n : ℕ). n + 1) (place _ c.args.table c.judge_table_at.ensures)
