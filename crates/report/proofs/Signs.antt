@@ -44,7 +44,7 @@ abs-within (negsuc n) most h = omega arith
 
 module _ (z : ℤ) (fits : mag z < 2 ^ 31) where
   pub back : to_z w32 (of_z w32 z) ≡ z
-  back = to_z-of_z (record { sfits = fits })
+  back = to_z-of_z {w = w32} (record { sfits = fits })
 
   pub abs-small : nat_abs z ≤ 2147483648
   abs-small = abs-within z 2147483648 (omega arith)
