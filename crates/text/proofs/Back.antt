@@ -32,7 +32,7 @@ use Rattle.lines.specs.Lines.{line_read, task_read}
 use Rattle.lines.specs.Told.{Good, told, told_below}
 use Rattle.lines.specs.Answers.{setting_at, figures_of, ended_at, answered, answer_at}
 use Rattle.lines.proofs.Told.{task-line}
-use Rattle.lines.proofs.Early.{lone-read, pair_read, plain-read, later-read}
+use Rattle.lines.proofs.Early.{lone-read, pair_read_lem, plain-read, later-read}
 use Rattle.report.specs.Decimal.{decimal}
 use Rattle.text.specs.Scaling.{past_task, task_of}
 use Rattle.text.specs.Shown.{interval_names, share_names, task_names, cell_text, row_text, task_numbers, interval_text, share_text, task_text, shown_text}
@@ -239,7 +239,7 @@ module _ (interval round share number : ℕ) (narrow : round < 65536) (narrow' :
   share-line : (at : ℕ) → line_read (interval_read interval) at (joined_below (cell_text pair) 2) ≡ shared_read interval round share
   unfolding shared_read interval_read words_below joined_below is_refused is_given is_open with_setting with_settings
   share-line at =
-      pair_read (interval_read interval) at (joined_below (cell_text pair) 2) refl (decimal round) (decimal share) round share (row-cells loosely pair (two-narrow round share narrow narrow') 1 (omega arith)) (decimal-is round narrow) (decimal-is share narrow') refl refl
+      pair_read_lem (interval_read interval) at (joined_below (cell_text pair) 2) refl (decimal round) (decimal share) round share (row-cells loosely pair (two-narrow round share narrow narrow') 1 (omega arith)) (decimal-is round narrow) (decimal-is share narrow') refl refl
       (decimal-setting round) (ap (λ (s : ℕ). cells_of s (joined_below (cell_text pair) 2)) (row-separator pair 2) ∙ row-alike pair 2)
 
   share-goes : Goes (interval_read interval) number (share_names ++ row_text pair 2) (shared_read interval round share) (after (after number))

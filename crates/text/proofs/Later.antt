@@ -63,12 +63,12 @@ after-lines text = number-two (lines-some text) 1 (omega arith)
 -- the same lines under other numbers
 pub answers-alike : {r u : Reading} → Alike r u → (n m : ℕ) → 2 ≤ n → 2 ≤ m → {lines : List (List ℕ)} → Some lines → unlined_answer (answer_of r n lines) ≡ unlined_answer (answer_of u m lines)
 unfolding answer_of read_with
-answers-alike alike n m p q (some line []) =
+answers-alike {r = r} {u = u} alike n m p q (some line []) =
     let e = ne_eqb n 1 (λ z. omega arith) in
     let f = ne_eqb m 1 (λ z. omega arith) in
     answer-alike (taken-alike alike n m e f (held_of line) (is_long line)) n m e f (held_of line)
-answers-alike alike n m p q (some line (next ∷ lines)) =
-    answers-alike (taken-alike alike n m (ne_eqb n 1 (λ z. omega arith)) (ne_eqb m 1 (λ z. omega arith)) (held_of line) (is_long line)) (after n) (after m) (after_two n (omega arith)) (after_two m (omega arith)) (some next lines)
+answers-alike {r = r} {u = u} alike n m p q (some line (next ∷ lines)) =
+    answers-alike {r = line_taken r n (held_of line) (is_long line)} {u = line_taken u m (held_of line) (is_long line)} (taken-alike alike n m (ne_eqb n 1 (λ z. omega arith)) (ne_eqb m 1 (λ z. omega arith)) (held_of line) (is_long line)) (after n) (after m) (after_two n (omega arith)) (after_two m (omega arith)) (some next lines)
 
 pub self-alike : (r : Reading) → Alike r r
 self-alike r = record { trouble = refl; settings = refl; layout = refl; task = record { numbers = refl; name = refl }; count = refl; tasks = refl }

@@ -30,7 +30,7 @@ use Rattle.lines.specs.Lines.{line_read, task_read}
 use Rattle.lines.specs.Told.{Good, told, told_below}
 use Rattle.lines.specs.Answers.{has_mark, unmarked, content_taken, line_taken, setting_at, figures_of, ended_at, answered, answer_at}
 use Rattle.lines.proofs.Told.{task-line}
-use Rattle.lines.proofs.Early.{Number-is, nothing_read, lone-read, pair_read, plain-read, later-read}
+use Rattle.lines.proofs.Early.{Number-is, nothing_read, lone-read, pair_read_lem, plain-read, later-read}
 use Rattle.report.specs.Words.{newline}
 use Rattle.report.specs.Decimal.{decimal}
 use Rattle.text.specs.Lines.{with_first, lines_of, said, held_of, is_long, read_with, answer_of}

@@ -1,0 +1,12 @@
+-- `text::gathering::holding` meets its contract. Assumes nothing.
+use Rattle.text.specs.Texts.{holding}
+use borrow.Author.Tests.{lt-ltb, le-ltb}
+use Rattle.text.proofs.gathering.holding.Goals as goal
+
+pub returns-then-held-ge512 : goal.returns-then-held-ge512
+unfolding holding
+returns-then-held-ge512 c = simp (le-ltb _ _ c.if-held-ge512.true)
+
+pub returns : goal.returns
+unfolding holding
+returns c = simp (lt-ltb _ _ c.if-held-ge512.false, c.turned.ensures)
