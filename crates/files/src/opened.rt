@@ -16,6 +16,13 @@ pub struct File {
     pub inode: u64,
 }
 
+// No file.
+pub const NONE: File = File {
+    mode: 0,
+    device: 0,
+    inode: 0,
+};
+
 // What is known of an opened input.
 fn learnt(rt: HostRuntime, opened: &Opened) -> Result<Metadata, Error> {
     match opened {
@@ -25,23 +32,14 @@ fn learnt(rt: HostRuntime, opened: &Opened) -> Result<Metadata, Error> {
 }
 
 // The file of which something is known, or none where nothing is told.
-pub fn known(told: Result<Metadata, Error>) -> File {
+pub(crate) fn known(told: Result<Metadata, Error>) -> File {
     match told {
         Ok(known) => File {
             mode: known.mode(),
             device: known.dev(),
             inode: known.ino(),
         },
-        Err(_) => none(),
-    }
-}
-
-// No file.
-pub fn none() -> File {
-    File {
-        mode: 0,
-        device: 0,
-        inode: 0,
+        Err(_) => NONE,
     }
 }
 

@@ -278,7 +278,7 @@ pub fn save_apart(rt: HostRuntime, place: usize, bytes: &[u8], source: File) -> 
 
 // The same, to whatever file it is.
 pub fn save(rt: HostRuntime, place: usize, bytes: &[u8]) -> bool {
-    save_apart(rt, place, bytes, opened::none())
+    save_apart(rt, place, bytes, opened::NONE)
 }
 
 // Whether a word is a name of standard output.

@@ -112,7 +112,7 @@ fn take(rt: HostRuntime, asked: Asked, opened: &mut Opened, name: &[u8]) -> u8 {
             let end = parts::part(length, &bytes);
             let empty = lines::no_reading();
             let tasks = empty.tasks;
-            answer(rt, asked, &bytes[..end], tasks, opened::none())
+            answer(rt, asked, &bytes[..end], tasks, opened::NONE)
         }
         Filled::Full => too_long(name),
         Filled::Failed(error) => {

@@ -167,7 +167,7 @@ fn of_bytes(rt: HostRuntime, place: usize) -> Source {
     Source {
         given,
         tasks,
-        file: opened::none(),
+        file: opened::NONE,
         is_taken: given.is_read,
     }
 }
@@ -186,7 +186,7 @@ pub fn sheet_at(rt: HostRuntime, asked: Asked, place: usize) -> Source {
     }
     if asked.options.scale != 1 {
         words::trouble(b"--scale is for texts, and a SHEET is bytes");
-        return nothing(opened::none());
+        return nothing(opened::NONE);
     }
     of_bytes(rt, place)
 }

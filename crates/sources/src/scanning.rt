@@ -61,6 +61,6 @@ pub fn read(rt: HostRuntime, name: &[u8]) -> Scanned {
             input::close(opened);
             read
         }
-        None => nothing(opened::none()),
+        None => nothing(opened::NONE),
     }
 }
