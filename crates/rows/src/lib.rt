@@ -13,8 +13,10 @@ ghost use Rattle.rows.specs.Answers.{said, number_said, bytes_said};
 ghost use Rattle.rows.specs.Tallies.{no_rows, counted};
 ghost use Rattle.rows.specs.Tables.{table_by, choice_of};
 
-use libc::STDOUT_FILENO;
 use sheet::Table;
+
+// The descriptor of standard output, on which all is written.
+const STDOUT_FILENO: i32 = 1;
 
 // The end of what does not stand in a list: a place that no list reaches.
 pub const MISSED: usize = 18446744073709551615;

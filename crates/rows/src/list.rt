@@ -4,8 +4,7 @@ ghost use Rattle.rows.specs.Lists.{after, grown, number_at, figure_of};
 ghost use Rattle.rows.specs.Answers.{said, number_said, glyph, hex_text};
 ghost use Rattle.rows.specs.Tallies.{counted, more};
 
-use crate::{MISSED, Tally};
-use libc::STDOUT_FILENO;
+use crate::{MISSED, STDOUT_FILENO, Tally};
 
 // The number whose digits stand at a place of a list, and the place after them.
 #[derive(Clone, Copy)]
