@@ -13,8 +13,10 @@ mod timed_tables;
 mod times;
 mod walks;
 
-use libc::STDIN_FILENO;
 use rows::Tally;
+
+// The descriptor of standard input.
+const STDIN_FILENO: i32 = 0;
 
 // Runs every row of the list that standard input holds.
 fn main() {
