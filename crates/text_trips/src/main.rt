@@ -5,8 +5,10 @@
 mod drawing;
 mod turned;
 
-use libc::STDOUT_FILENO;
 use sheet::Table;
+
+// The descriptor of standard output.
+const STDOUT_FILENO: i32 = 1;
 
 // How many sheets are drawn.
 const SHEETS: u32 = 10000;
