@@ -47,8 +47,8 @@ module _ {A : Type 0} (grow : ℕ → A → A) (none : A) (f : ℕ → ℕ) wher
   -- where no number is above v, they are all of them
   grown-all : (v n : ℕ) → ((k : ℕ) → k < n → f k ≤ v) → grown_to v n ≡ grown n
   unfolding grown grown_to
-  grown-all v zero IsSmall = refl
-  grown-all v (suc n) IsSmall = simp (le-ltb v (f n) (IsSmall n (omega arith)), grown-all v n (λ k h. IsSmall k (omega arith)))
+  grown-all v zero small = refl
+  grown-all v (suc n) small = simp (le-ltb v (f n) (small n (omega arith)), grown-all v n (λ k h. small k (omega arith)))
 
   -- where no number is 0, none is at most 0
   grown-none : (n : ℕ) → ((k : ℕ) → k < n → 1 ≤ f k) → grown_to 0 n ≡ none
@@ -104,8 +104,8 @@ module _ (f : ℕ → ℕ) (n : ℕ) (within : (k : ℕ) → k < n → (1 ≤ f 
   -- their product is n!
   product-factorial : grown ◌*◌ 1 f n ≡ factorial n
   product-factorial =
-      let IsSmall : (k : ℕ) → k < n → f k ≤ n = λ k h. (within k h).1 in
-      sym (grown-all ◌*◌ 1 f n n IsSmall) ∙ (full-to n).1 (grown-all (λ p. suc) 0 f n n IsSmall ∙ number-all f n)
+      let small : (k : ℕ) → k < n → f k ≤ n = λ k h. (within k h).1 in
+      sym (grown-all ◌*◌ 1 f n n small) ∙ (full-to n).1 (grown-all (λ p. suc) 0 f n n small ∙ number-all f n)
 
 -- each of some entries before each of some rests makes as many lists as the product of their numbers
 spread-length : (qs : List ℕ) (rests : List (List ℕ)) → length (spread qs rests) ≡ length qs * length rests

@@ -33,7 +33,7 @@ use Rattle.choices.specs.declared.Listing.{Listing}
 use Rattle.choices.specs.Choices.{chosen}
 use Rattle.choices.specs.Order.{after_of}
 use Rattle.choices.specs.Answers.{start_walk, arrive_at, step_from, room_refusal, list_from, leaves_from, start_refusal, step_by, refusal_by, list_by, leaves_by}
-use Rattle.choices.specs.Stepping.{small}
+use Rattle.choices.specs.Stepping.{IsSmall}
 use Rattle.choices.proofs.Listed.{next-listed}
 use Rattle.fidhaqooban.specs.Numbers.{answer_of, time_of, entries_of, choice_of}
 use Rattle.fidhaqooban.specs.Answers.{first_number, arrival_answered, next_by, listed_by, listed_left, assured_number}
@@ -85,12 +85,12 @@ kept refusal list out broken = simp (ne_eqb (or_else refusal (cond (ltb (length 
 -- the answers of a sheet that is read, of the choices that hold by a rule
 module _ (rule : Rule) (s : List ℕ) (reading : Reading) (e : reading ≡ read_answer s) where
   -- the choice that a good sheet's step comes to has room in four bits for each entry
-  pub step_small : reading.refusal ≡ 0 → (w : Walk) (stepped : Stepped) → stepped ≡ step_by rule reading.table w → stepped.arrival ≡ Found → small stepped.walk.entries
+  pub step_small : reading.refusal ≡ 0 → (w : Walk) (stepped : Stepped) → stepped ≡ step_by rule reading.table w → stepped.arrival ≡ Found → IsSmall stepped.walk.entries
   unfolding step_by step_from
   step_small left w stepped given came =
       let step : stepped ≡ step_by rule (table_of s) w = given ∙ ap (λ (t : Table). step_by rule t w) (table-read s reading e left) in
       let first = step-found (start_refusal rule (table_of s) w.entries) w (after_of w.entries (chosen (meets rule) (table_of s))) (ap (λ (r : Stepped). r.arrival) (sym step) ∙ came) in
-      subst (λ (r : Stepped). small r.walk.entries) (sym step) (next-listed (meets rule) (table_of s) (good-table-read s reading e left) w.entries _ _ first).narrow
+      subst (λ (r : Stepped). IsSmall r.walk.entries) (sym step) (next-listed (meets rule) (table_of s) (good-table-read s reading e left) w.entries _ _ first).narrow
 
   -- a step
   pub next-is : (after : ℕ) (entries : List ℕ) (stepped : Stepped) → entries ≡ entries_of after → stepped ≡ step_by rule reading.table (record { entries = entries })

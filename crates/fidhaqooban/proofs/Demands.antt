@@ -15,7 +15,7 @@ use Rattle.sheet.specs.declared.Record.{Record}
 use Rattle.sheet.specs.Layout.{record_at}
 use Rattle.sheet.proofs.Agree.{room_at}
 use Rattle.sheet.proofs.Packing.{Fit, packed-unpacked, unpacked-packed}
-use Rattle.choices.specs.Stepping.{small}
+use Rattle.choices.specs.Stepping.{IsSmall}
 use Rattle.fidhaqooban.specs.Numbers.{answer_of, number_at, byte_of, given_record, table_from, given_table, entries_of, choice_of}
 use Rattle.fidhaqooban.proofs.Answered.{some}
 use Rattle.fidhaqooban.proofs.Fields.{fit-taken}
@@ -51,8 +51,8 @@ unfolding given_table table_from
 given-table count interval round share numbers = (refl, refl, refl, refl, λ place below few. rw (room_at (given_record (take (6 * count) numbers)) 8 (omega arith) place few) (six-kept numbers (6 * count) place (omega arith)))
 
 -- "A choice is a number of 32 bits": the entries of a choice's number are the choice
-pub entries-back : (c : List ℕ) → length c ≡ 8 → small c → entries_of (choice_of c) ≡ c
-unfolding entries_of choice_of small
+pub entries-back : (c : List ℕ) → length c ≡ 8 → IsSmall c → entries_of (choice_of c) ≡ c
+unfolding entries_of choice_of IsSmall
 entries-back c eight narrow = unpacked-packed (subst (Fit (replicate 8 4)) (take_all 8 c (omega arith)) (fit-taken 4 8 c narrow (omega arith)))
 
 -- and the number of a number's entries is that number

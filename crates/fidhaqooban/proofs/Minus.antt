@@ -12,7 +12,7 @@ use mir.Facts.{to_z_pos, to_z-of_z}
 
 -- a signed number that is handed on is itself
 pub handed : (z : ℤ) → mag z < 2 ^ 63 → to_z w64 (of_z w64 z) ≡ z
-handed z h = to_z-of_z (record { sfits = h })
+handed z h = to_z-of_z {w = w64} (record { sfits = h })
 
 -- a number of less than 63 bits has a minus sign
 module _ (n : ℕ) (fits : n < 2 ^ 63) where

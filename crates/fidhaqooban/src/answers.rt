@@ -2,7 +2,7 @@
 ghost use Rattle.std.specs.Prelude.{◌≡◌, ◌<◌, ◌^◌};
 ghost use Rattle.places.specs.Refusals.{or_else};
 ghost use Rattle.choices.specs.declared.Arrival.TheVariants.{Found};
-ghost use Rattle.choices.specs.Stepping.{small};
+ghost use Rattle.choices.specs.Stepping.{IsSmall};
 ghost use Rattle.fidhaqooban.specs.Answers.{interval_answered, arrival_answered};
 ghost use Rattle.fidhaqooban.specs.Numbers.{answer_of, time_of, choice_of};
 
@@ -40,7 +40,7 @@ pub fn time_of(outcome: Outcome) -> usize
 
 // A choice as a number.
 pub fn choice_of(entries: [u8; 8]) -> u32
-    requires { small entries }
+    requires { IsSmall entries }
     ensures { result ≡ choice_of entries }
 {
     let mut choice: u32 = 0;
@@ -65,7 +65,7 @@ pub fn interval_of(sheet: u8, interval: Interval) -> i64
 
 // What a step comes to as a number, after the refusal of its sheet: the choice, 0 at the end, or the refusal with a minus sign.
 pub fn step_of(sheet: u8, stepped: Stepped) -> i64
-    requires { sheet ≡ 0 → stepped.arrival ≡ Found → small stepped.walk.entries }
+    requires { sheet ≡ 0 → stepped.arrival ≡ Found → IsSmall stepped.walk.entries }
     ensures { result ≡ arrival_answered sheet stepped.arrival stepped.walk.entries }
 {
     if sheet != 0 {

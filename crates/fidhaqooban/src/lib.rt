@@ -272,7 +272,7 @@ pub extern "C" fn fq_mend(sheet: &[u8], out: &mut [u8], changes: &mut [u64]) -> 
         return answers::answer(11, 0);
     }
     let list = listed.list;
-    bytes::copy(&longest[..size], out);
+    out[..size].copy_from_slice(&longest[..size]);
     outputs::put_changes(list, listed.count, changes);
     answers::answer(0, size)
 }

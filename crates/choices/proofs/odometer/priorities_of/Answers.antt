@@ -25,7 +25,7 @@ loop-place-preserved c =
 
 pub returns : goal.returns
 unfolding priorities_of
-returns c IsSmall =
+returns c small =
     let table = c.args.table in
-    let all : c.loop-place.place ≡ table.count = omega (arith, c.few-count.ensures.1 IsSmall) in
+    let all : c.loop-place.place ≡ table.count = omega (arith, c.few-count.ensures.1 small) in
     c.loop-place.invariant.1 ∙ ap (λ (n : ℕ). filled_below (priority_of table.records) n (replicate 8 0)) all

@@ -1,0 +1,7 @@
+-- `fidhaqooban::given::record` meets its contract. Assumes nothing.
+use Rattle.fidhaqooban.specs.Numbers.{given_record}
+use Rattle.fidhaqooban.proofs.given.record.Goals as goal
+
+pub returns : goal.returns
+unfolding given_record
+returns c = cc
