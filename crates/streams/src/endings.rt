@@ -4,7 +4,7 @@ ghost use Rattle.streams.specs.Endings.{first_place, ends_in};
 
 use crate::descriptors::STATUS_FILENO;
 use crate::{reasons, words};
-use std::io::Error;
+use std::io::{Error, ErrorKind};
 
 // The sheet passes, the record is accepted, nothing is missed, what was looked for is found.
 pub const HOLDS: u8 = 0;
@@ -14,6 +14,9 @@ pub const FAILS: u8 = 1;
 
 // Something is refused, or could not be read or written.
 pub const TROUBLE: u8 = 2;
+
+// Nobody reads standard output any more.
+pub const UNREAD: u8 = 3;
 
 // The first argument: none that is known, `status`, `explain`.
 pub const NOTHING: u8 = 0;
@@ -58,8 +61,11 @@ pub fn tell(word: u8, ending: u8) {
     }
 }
 
-// Says why the answer could not be written.
+// Says why the answer could not be written, but where nobody reads it: then the run command ends as a program does that the system ends for it.
 pub fn failed(error: Error) -> u8 {
+    if error.kind() == ErrorKind::BrokenPipe {
+        return UNREAD;
+    }
     reasons::say(b"standard output", &error);
     TROUBLE
 }
