@@ -4,8 +4,8 @@
  * given back.
  * From the repository's root, on x86-64:
  *
- *     rt staticlib fidhaqooban
- *     gcc -std=c11 -Iinclude -o example examples/ask_for_a_lock.c target/staticlib/libfidhaqooban.a && ./example
+ *     (cd crates/fidhaqooban && rt lib)
+ *     gcc -std=c11 -Iinclude -o example examples/ask_for_a_lock.c crates/fidhaqooban/out/libfidhaqooban.a && ./example
  */
 #include <fidhaqooban.h>
 

@@ -2,8 +2,8 @@
  * Links the library: writes the sheet of the same name from its numbers, and prints each task's response and every passing choice.
  * From the repository's root, on x86-64:
  *
- *     rt staticlib fidhaqooban
- *     gcc -std=c11 -Iinclude -o example examples/only_lowered_pass.c target/staticlib/libfidhaqooban.a && ./example
+ *     (cd crates/fidhaqooban && rt lib)
+ *     gcc -std=c11 -Iinclude -o example examples/only_lowered_pass.c crates/fidhaqooban/out/libfidhaqooban.a && ./example
  */
 #include <fidhaqooban.h>
 

@@ -4,8 +4,8 @@
  * backup. The settlement check is protected: it may not get slower.
  * From the repository's root, on x86-64:
  *
- *     rt staticlib fidhaqooban
- *     gcc -std=c11 -Iinclude -o example examples/release_of_march.c target/staticlib/libfidhaqooban.a && ./example
+ *     (cd crates/fidhaqooban && rt lib)
+ *     gcc -std=c11 -Iinclude -o example examples/release_of_march.c crates/fidhaqooban/out/libfidhaqooban.a && ./example
  */
 #include <fidhaqooban.h>
 

@@ -4,8 +4,8 @@
  * fourth task still fits beside the first two.
  * From the repository's root, on x86-64:
  *
- *     rt staticlib fidhaqooban
- *     gcc -std=c11 -Iinclude -o example examples/two_cores.c target/staticlib/libfidhaqooban.a && ./example
+ *     (cd crates/fidhaqooban && rt lib)
+ *     gcc -std=c11 -Iinclude -o example examples/two_cores.c crates/fidhaqooban/out/libfidhaqooban.a && ./example
  */
 #include <fidhaqooban.h>
 

@@ -27,7 +27,7 @@
  * Where the lowest task, of priority 1, is late, no choice passes and none is assured, and the next choices and the
  * lists say so from that one response.
  *
- * Build the library with `rt staticlib fidhaqooban` and link target/staticlib/libfidhaqooban.a (x86-64).
+ * Build the library with `rt lib` in crates/fidhaqooban and link crates/fidhaqooban/out/libfidhaqooban.a (x86-64).
  */
 #ifndef FIDHAQOOBAN_H
 #define FIDHAQOOBAN_H

@@ -1,17 +1,15 @@
 /*
- * The C functions that the kit's library os is over, for machines other than x86-64, for which the kit has them compiled. Their contracts
- * are the kit's (its libs/os/src/c.rt); a slice comes as a pointer and a length. And fstat, since the kit's struct is laid out as that of
- * x86-64.
+ * The C functions of the kit that the programs are over, for machines other than x86-64, for which the kit has them compiled. Their
+ * contracts are the kit's (os/src/c.rt and libc/src/heap.rt of its guides' folder); a slice comes as a pointer and a length.
  */
-#define _GNU_SOURCE
 #include <errno.h>
-#include <fcntl.h>
+#include <stdbool.h>
 #include <stddef.h>
 #include <stdint.h>
-#include <sys/stat.h>
+#include <stdlib.h>
 #include <sys/types.h>
 
-enum { NO_SUCH_ARGUMENT = -1, DOES_NOT_FIT = -2, EVERY_FILE = O_NOCTTY | O_CLOEXEC };
+enum { NO_SUCH_ARGUMENT = -1, DOES_NOT_FIT = -2 };
 
 /* The program's arguments. */
 static int count;
@@ -22,12 +20,6 @@ __attribute__((constructor)) static void keep(int given_count, char **given_word
 {
     count = given_count;
     words = given_words;
-}
-
-/* How many arguments there are, the program's own name among them. */
-size_t rattle_arg_count(void)
-{
-    return (size_t)count;
 }
 
 /* Copies an argument: its length, or that there is none, or that it does not fit, and then the buffer is full. */
@@ -58,68 +50,22 @@ void rattle_set_errno(int32_t error)
     errno = error;
 }
 
-/* Opens a file to be read: its descriptor, or -1. */
-int32_t rattle_open_to_read(const char *path)
-{
-    return open(path, O_RDONLY | EVERY_FILE);
-}
-
-/* Makes a file that is not there yet. */
-int32_t rattle_open_new(const char *path, uint32_t mode)
-{
-    return open(path, O_WRONLY | O_CREAT | O_EXCL | EVERY_FILE, mode);
-}
-
-/* Makes a file, or empties the one that is there. */
-int32_t rattle_open_to_overwrite(const char *path, uint32_t mode)
-{
-    return open(path, O_WRONLY | O_CREAT | O_TRUNC | EVERY_FILE, mode);
-}
-
-/* Opens a file to be written after its end. */
-int32_t rattle_open_to_append(const char *path)
-{
-    return open(path, O_WRONLY | O_APPEND | EVERY_FILE);
-}
-
-/* Opens a file to be read and written where it stands. */
-int32_t rattle_open_to_update(const char *path)
-{
-    return open(path, O_RDWR | EVERY_FILE);
-}
-
-/* The kit's struct, its libs/libc/src/types.rt. */
-struct kits_stat {
-    uint64_t device, inode, links;
-    uint32_t mode, user, group, unused;
-    uint64_t special;
-    int64_t size, block_size, blocks;
-    struct timespec read, written, changed;
-    int64_t reserved[3];
+/* Memory, or none; there is some pointer in any case. */
+struct tried {
+    bool is_there;
+    void *block;
 };
 
-/* Known to the linker as fstat. */
-int32_t kits_fstat(int32_t opened, struct kits_stat *filled) __asm__("fstat");
-
-/* Fills the kit's struct from the system's: 0, or -1. */
-int32_t kits_fstat(int32_t opened, struct kits_stat *filled)
+/* Asks for memory for a value of that size and alignment, 16 at most, which malloc's has. */
+struct tried rattle_alloc(size_t size, size_t alignment)
 {
-    struct stat found;
-    if (fstatat(opened, "", &found, AT_EMPTY_PATH) != 0) {
-        return -1;
-    }
-    *filled = (struct kits_stat){.device = found.st_dev,
-                                 .inode = found.st_ino,
-                                 .links = found.st_nlink,
-                                 .mode = found.st_mode,
-                                 .user = found.st_uid,
-                                 .group = found.st_gid,
-                                 .special = found.st_rdev,
-                                 .size = found.st_size,
-                                 .block_size = found.st_blksize,
-                                 .blocks = found.st_blocks,
-                                 .read = found.st_atim,
-                                 .written = found.st_mtim,
-                                 .changed = found.st_ctim};
-    return 0;
+    static uint8_t nothing[16];
+    void *block = malloc(size != 0 ? size : alignment);
+    return (struct tried){.is_there = block != NULL, .block = block != NULL ? block : nothing};
+}
+
+/* Gives it back. */
+void rattle_dealloc(void *block)
+{
+    free(block);
 }

@@ -15,6 +15,8 @@ use Rattle.sheet.specs.declared.Table.{Table}
 use Rattle.sheet.specs.Rules.{table_refusal}
 use Rattle.sheet.specs.Layout.{record_at}
 use Rattle.sheet.proofs.Cases.{GoodTable, good-table, good-at}
+use Rattle.analysis.specs.declared.Equation.{Equation}
+use Rattle.analysis.specs.declared.Equation.TheVariants.{Elsewhere, Itself, Assurance}
 use Rattle.analysis.specs.Common.Tasks.{Tasks, tasks_of, own_choice}
 use Rattle.analysis.specs.Published.Equations.{struck_elsewhere, struck_itself}
 use Rattle.analysis.specs.Common.Search.{least_within}
@@ -22,7 +24,10 @@ use Rattle.analysis.specs.Published.Response.{time_elsewhere, time_itself, respo
 use Rattle.analysis.specs.Common.Entries.{is_late}
 use Rattle.analysis.specs.Assured.Equation.{assured_equation}
 use Rattle.analysis.specs.Assured.Time.{assured_within, assured_time}
+use Rattle.analysis.specs.ByEquation.{asked_by, time_of}
+use Rattle.analysis.specs.declared.Rule.{Rule}
 use Rattle.analysis.specs.Published.Answers.{least_interval}
+use Rattle.analysis.specs.ByRule.{meets, least_interval_by}
 use Rattle.analysis.proofs.Laws.Common.Climbing.{Least, least-says, least-found, least-none}
 use Rattle.analysis.proofs.Laws.Published.EachTick.{itself-never}
 use Rattle.analysis.proofs.Laws.Published.Larger.{late-elsewhere, late-itself, on-time}
@@ -108,6 +113,26 @@ module _ (s : Tasks) (i : ℕ) where
   unfolding assured_time assured_within
   low-none = none_is (assured_equation s i) 1 65535 (omega arith)
 
+-- the time by each equation is the least that it allows up to 65,535, and there is none exactly if no number up to there is enough
+module _ (equation : Equation) (s : Tasks) (i : ℕ) where
+  pub solution-least : (L : ℕ) → 1 ≤ L → (time_of equation s i ≡ L) ↔ IsLeast (asked_by equation s i) 1 65535 L
+  unfolding time_of asked_by
+  solution-least L long = by equation
+    where
+      by : (e : Equation) → (time_of e s i ≡ L) ↔ IsLeast (asked_by e s i) 1 65535 L
+      by Elsewhere = elsewhere-least 65535 s i L long
+      by Itself = itself-least 65535 s i L long
+      by Assurance = low-least s i L long
+
+  pub solution-none : (time_of equation s i ≡ 0) ↔ NoValue (asked_by equation s i) 1 65535
+  unfolding time_of asked_by
+  solution-none = by equation
+    where
+      by : (e : Equation) → (time_of e s i ≡ 0) ↔ NoValue (asked_by e s i) 1 65535
+      by Elsewhere = elsewhere-none 65535 s i
+      by Itself = itself-none 65535 s i
+      by Assurance = low-none s i
+
 -- "A sheet passes if no task is late."
 pub passes-exactly : (s : Tasks) → (passes s ≡ true) ↔ ((i : ℕ) → i < s.count → late s i ≡ false)
 unfolding passes
@@ -139,6 +164,30 @@ fails-at-1 t good choice = go (passes (tasks_of t 1 choice)) refl
     go : (b : Bool) → passes (tasks_of t 1 choice) ≡ b → b ≡ false
     go true e = absurd (true≢false (sym (simp (eq-eqb _ 0 none)) ∙ (passes-exactly (tasks_of t 1 choice)).0 e 0 first))
     go false e = refl
+
+-- whether a table meets a rule at an interval, with its own fault priorities
+abbrev pub meets_at : Rule → Table → ℕ → Bool
+meets_at rule t interval = meets rule (tasks_of t interval (own_choice t))
+
+-- the least interval by a rule: the rule is met at it, and at none below
+pub least_by : (rule : Rule) (t : Table) (interval : ℕ) → 1 ≤ interval
+    → (least_interval_by rule t ≡ interval) ↔ ((interval ≤ 65535) × (meets_at rule t interval ≡ true) × ((e : ℕ) → 1 ≤ e → e < interval → meets_at rule t e ≡ false))
+unfolding least_interval_by
+least_by rule t interval some =
+    (λ e. go (first_says (meets_at rule t) 65535 1) e, λ w. first_found (meets_at rule t) 65535 1 interval some (omega arith) w.2 w.1)
+  where
+    go : {r : ℕ} → Says (meets_at rule t) 1 65535 r → r ≡ interval → (interval ≤ 65535) × (meets_at rule t interval ≡ true) × ((e : ℕ) → 1 ≤ e → e < interval → meets_at rule t e ≡ false)
+    go (Says.none fails) e = absurd (omega arith)
+    go (Says.found low high fails holds) e = (omega arith, ap (meets_at rule t) (sym e) ∙ holds, subst (Fails (meets_at rule t) 1) e fails)
+
+-- and there is none exactly if it is met at no interval from 1 to 65,535
+pub least-by-none : (rule : Rule) (t : Table) → (least_interval_by rule t ≡ 0) ↔ ((e : ℕ) → 1 ≤ e → e ≤ 65535 → meets_at rule t e ≡ false)
+unfolding least_interval_by
+least-by-none rule t = (λ e. go (first_says (meets_at rule t) 65535 1) e, λ fails. first-none (meets_at rule t) 65535 1 (λ k low high. fails k low (omega arith)))
+  where
+    go : {r : ℕ} → Says (meets_at rule t) 1 65535 r → r ≡ 0 → (e : ℕ) → 1 ≤ e → e ≤ 65535 → meets_at rule t e ≡ false
+    go (Says.none fails) e k low high = fails k low (omega arith)
+    go (Says.found first last fails holds) e k low high = absurd (omega arith)
 
 -- whether a table passes at an interval, with its own fault priorities
 abbrev pub passes_at : Table → ℕ → Bool

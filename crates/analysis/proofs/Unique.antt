@@ -3,6 +3,7 @@ use mathlib.Core.Path.{◌≡◌}
 use Prim.Native.Nat.{ℕ}
 use Rattle.sheet.proofs.Unique.{both}
 use Rattle.analysis.specs.declared.Timed.{Timed}
+use Rattle.analysis.specs.declared.Solution.{Solution}
 use Rattle.analysis.specs.declared.Assessment.{Assessment}
 use Rattle.analysis.specs.declared.Interval.{Interval}
 use Rattle.analysis.specs.declared.Bounds.{Bounds}
@@ -12,6 +13,7 @@ use Rattle.analysis.proofs.judge_choice_by.Reads as judged
 use Rattle.analysis.proofs.judge_choice.Reads as chosen
 use Rattle.analysis.proofs.time_by.Reads as timed
 use Rattle.analysis.proofs.response_time.Reads as response
+use Rattle.analysis.proofs.time_of.Reads as solved
 use Rattle.analysis.proofs.time_in.Reads as timed-in
 use Rattle.analysis.proofs.assess_in.Reads as assessed-in
 use Rattle.analysis.proofs.assess_choice_by.Reads as choice-by
@@ -19,9 +21,11 @@ use Rattle.analysis.proofs.assess_by.Reads as assessed-by
 use Rattle.analysis.proofs.assess_choice.Reads as assessed-choice
 use Rattle.analysis.proofs.assess.Reads as assessed
 use Rattle.analysis.proofs.least_interval.Reads as least
+use Rattle.analysis.proofs.least_interval_by.Reads as least_by
 use Rattle.analysis.proofs.bounds_of.Reads as bounded
 use Rattle.analysis.proofs.meets_lent.Reads as lent
 use Rattle.analysis.proofs.meets_choice.Reads as met
+use Rattle.analysis.proofs.meets_by.Reads as own-met
 
 pub judge-rule-unique : (args : _) (a b : ℕ) (s : _) → ruled.Learnt tt args a s → ruled.Learnt tt args b s → a ≡ b
 judge-rule-unique args a b s = both
@@ -38,6 +42,9 @@ time-by-unique args a b s = both
 pub response-time-unique : (args : _) (a b : Timed) (s : _) → response.Learnt tt args a s → response.Learnt tt args b s → a ≡ b
 response-time-unique args a b s = both
 
+pub time-of-unique : (args : _) (a b : Solution) (s : _) → solved.Learnt tt args a s → solved.Learnt tt args b s → a ≡ b
+time-of-unique args a b s = both
+
 pub assess-choice-by-unique : (args : _) (a b : Assessment) (s : _) → choice-by.Learnt tt args a s → choice-by.Learnt tt args b s → a ≡ b
 assess-choice-by-unique args a b s = both
 
@@ -53,6 +60,9 @@ assess-unique args a b s = both
 pub least-interval-unique : (args : _) (a b : Interval) (s : _) → least.Learnt tt args a s → least.Learnt tt args b s → a ≡ b
 least-interval-unique args a b s = both
 
+pub least-interval-by-unique : (args : _) (a b : Interval) (s : _) → least_by.Learnt tt args a s → least_by.Learnt tt args b s → a ≡ b
+least-interval-by-unique args a b s = both
+
 pub time-in-unique : (κs : _) (args : _) (a b : Timed) (s : _) → timed-in.Learnt κs args a s → timed-in.Learnt κs args b s → a ≡ b
 time-in-unique κs args a b s = both
 
@@ -67,3 +77,6 @@ meets-lent-unique κs args a b s = both
 
 pub meets-choice-unique : (args : _) (a b : Verdict) (s : _) → met.Learnt tt args a s → met.Learnt tt args b s → a ≡ b
 meets-choice-unique args a b s = both
+
+pub meets-by-unique : (args : _) (a b : Verdict) (s : _) → own-met.Learnt tt args a s → own-met.Learnt tt args b s → a ≡ b
+meets-by-unique args a b s = both

@@ -1,6 +1,7 @@
 -- The two rules that a choice of fault priorities can be judged by, and what is refused before: a choice passes by the published equations, and is assured by the assured equation: it meets the one rule or the other. Beside them, what the calls that are given a rule answer.
 use Rattle.std.specs.Prelude.{ℕ, Bool, cond, not, List, eqb, ltb, get_or, replicate}
 use Rattle.places.specs.Places.{some_below, filled_below}
+use Rattle.places.specs.Search.{first_from}
 use Rattle.places.specs.Refusals.{or_else}
 use Rattle.sheet.specs.declared.Table.{Table}
 use Rattle.sheet.specs.Rules.{table_refusal, whole_refusal}
@@ -8,10 +9,12 @@ use Rattle.analysis.specs.declared.Entry.{Entry}
 use Rattle.analysis.specs.declared.Timed.{Timed}
 use Rattle.analysis.specs.declared.Assessment.{Assessment}
 use Rattle.analysis.specs.declared.Verdict.{Verdict}
+use Rattle.analysis.specs.declared.Interval.{Interval}
 use Rattle.analysis.specs.declared.Rule.{Rule}
 use Rattle.analysis.specs.declared.Rule.TheVariants.{Published, Assured}
 use Rattle.analysis.specs.Common.Tasks.{Tasks, tasks_of, own_choice}
 use Rattle.analysis.specs.Published.Response.{response_time, passes}
+use Rattle.analysis.specs.Published.Answers.{least_of}
 use Rattle.analysis.specs.Assured.Time.{assured_time, assured}
 use Rattle.analysis.specs.Common.Columns.{priorities_of}
 use Rattle.analysis.specs.Common.Allowed.{all_allowed}
@@ -61,6 +64,10 @@ ranked_assessment rule s ranks =
 unfoldable pub meets_answer : Rule → Table → List ℕ → Verdict
 meets_answer rule t choice = verdict_of (judged_refusal rule t choice) (meets rule (tasks_of t t.interval choice))
 
+-- `meets_by`: whether the table's own fault priorities do
+unfoldable pub own_meets : Rule → Table → Verdict
+own_meets rule t = meets_answer rule t (own_choice t)
+
 -- the refusal of `time_by`: the rule's, then 12, "the record place asked for is not below the count"
 unfoldable pub place_refusal : Rule → Table → ℕ → ℕ
 place_refusal rule t place = or_else (rule_refusal rule t) (cond (ltb place t.count) 0 12)
@@ -68,3 +75,11 @@ place_refusal rule t place = or_else (rule_refusal rule t) (cond (ltb place t.co
 -- `time_by`: the refusal beside the record's entry by a rule
 unfoldable pub timed_by : Rule → Table → ℕ → Timed
 timed_by rule t place = record { refusal = place_refusal rule t place; entry = cond (eqb (place_refusal rule t place) 0) (entry_by rule (own_tasks t) place) no_entry }
+
+-- the smallest E from 1 to 65,535 at which the table's own fault priorities meet the rule; 0 if there is none
+unfoldable pub least_interval_by : Rule → Table → ℕ
+least_interval_by rule t = first_from (λ interval. meets rule (tasks_of t interval (own_choice t))) 1 65535
+
+-- `least_interval_by`: the least interval of a table that is not refused under the rule
+unfoldable pub interval_answer_by : Rule → Table → Interval
+interval_answer_by rule t = least_of (rule_refusal rule t) (least_interval_by rule t)

@@ -4,7 +4,8 @@
 
 ghost use Rattle.std.specs.Prelude.{◌≡◌};
 ghost use Rattle.analysis.specs.Published.Answers.{timed_answer, choice_refusal, choice_assessment, own_assessment, interval_answer};
-ghost use Rattle.analysis.specs.ByRule.{rule_refusal, judged_refusal, choice_assessment_by, own_assessment_by, meets_answer, place_refusal, timed_by};
+ghost use Rattle.analysis.specs.ByRule.{rule_refusal, judged_refusal, choice_assessment_by, own_assessment_by, meets_answer, own_meets, place_refusal, timed_by, interval_answer_by};
+ghost use Rattle.analysis.specs.ByEquation.{solution_of};
 ghost use Rattle.analysis.specs.BySheet.{timed_in, assessed_in};
 ghost use Rattle.analysis.specs.Bounds.Found.{bounds_of};
 ghost use Rattle.analysis.specs.Bounds.Within.{bounds_in, within_answer};
@@ -16,9 +17,11 @@ use sheet::Table;
 
 mod assured;
 mod bounding;
+mod by_equation;
 mod by_rule;
 mod by_sheet;
 mod common;
+mod halving;
 mod meeting;
 mod published;
 
@@ -59,7 +62,7 @@ pub struct Assessment {
     pub passes: bool,
 }
 
-// What `least_interval` answers.
+// What `least_interval` and `least_interval_by` answer.
 #[derive(Clone, Copy)]
 pub enum Interval {
     Refused(u8),
@@ -72,6 +75,21 @@ pub enum Interval {
 pub enum Rule {
     Published,
     Assured,
+}
+
+// One of the equations that a time is the least length of: struck elsewhere, struck itself, or the assured equation.
+#[derive(Clone, Copy)]
+pub enum Equation {
+    Elsewhere,
+    Itself,
+    Assurance,
+}
+
+// What `time_of` answers: the refusal, or 0 beside the time, 0 where the equation has none.
+#[derive(Clone, Copy)]
+pub struct Solution {
+    pub refusal: u8,
+    pub time: u16,
 }
 
 // The priorities and the backups of a table's records in record order, 0 past the count.
@@ -92,7 +110,7 @@ pub struct Bounds {
     pub limits: [u32; 72],
 }
 
-// What `meets_choice` and `meets_lent` answer: the refusal, or 0 beside yes or no.
+// What `meets_choice`, `meets_by` and `meets_lent` answer: the refusal, or 0 beside yes or no.
 #[derive(Clone, Copy)]
 pub struct Verdict {
     pub refusal: u8,
@@ -164,7 +182,19 @@ pub fn response_time(table: Table, place: usize) -> Timed
     time_by(table, place, Rule::Published)
 }
 
-// The same by a rule, of a sheet's bytes, which are read straight into columns: the sheet's own refusal comes first.
+// The time by one of the equations of the record at a place, searched for up to 65,535, or 0.
+pub fn time_of(table: Table, place: usize, equation: Equation) -> Solution
+    ensures { result ≡ solution_of equation table place }
+{
+    let refusal = judge_record_place(table, place, by_equation::rule_of(equation));
+    if refusal != 0 {
+        return Solution { refusal, time: 0 };
+    }
+    let time = by_equation::time_under(table, choice::own_choice(table), place, equation);
+    Solution { refusal: 0, time }
+}
+
+// The time by a rule, or late, of a sheet's bytes, which are read straight into columns: the sheet's own refusal comes first.
 pub fn time_in(sheet: &[u8], place: usize, rule: Rule) -> Timed
     ensures { result ≡ timed_in rule sheet.now place }
 {
@@ -247,6 +277,21 @@ pub fn least_interval(table: Table) -> Interval
     Interval::Least(least)
 }
 
+// The same by a rule: the smallest one at which the table meets it.
+pub fn least_interval_by(table: Table, rule: Rule) -> Interval
+    ensures { result ≡ interval_answer_by rule table }
+{
+    let refusal = judge_rule(table, rule);
+    if refusal != 0 {
+        return Interval::Refused(refusal);
+    }
+    let least = halving::least(table, rule);
+    if least != 0 {
+        return Interval::Least(least);
+    }
+    Interval::Nothing
+}
+
 // How large a backup each record bears under a rule, found by at most ten searches for each record and each fault priority that it can have, and for M;
 // zeros beside 0 where a few searches tell that no choice meets the rule.
 pub fn bounds_of(table: Table, rule: Rule) -> Bounds
@@ -295,4 +340,11 @@ pub fn meets_choice(table: Table, choice: [u8; 8], rule: Rule) -> Verdict
     }
     let yes = meeting::meets(table, choice, rule);
     Verdict { refusal: 0, yes }
+}
+
+// The same under the table's own fault priorities.
+pub fn meets_by(table: Table, rule: Rule) -> Verdict
+    ensures { result ≡ own_meets rule table }
+{
+    meets_choice(table, choice::own_choice(table), rule)
 }

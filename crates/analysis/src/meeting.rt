@@ -11,7 +11,12 @@ use crate::{Rule, assured};
 use sheet::Table;
 
 // Whether the tasks in columns meet a rule.
-fn meets_in_order<'a>(columns: &'a [u16; 32], faults: &'a [u8; 8], frame: Frame, rule: Rule) -> bool
+pub fn meets_in_order<'a>(
+    columns: &'a [u16; 32],
+    faults: &'a [u8; 8],
+    frame: Frame,
+    rule: Rule,
+) -> bool
     requires order { InOrder (ranked columns.now frame faults.now) }
     requires chosen { ChosenIn (ranked columns.now frame faults.now) }
     ensures { result ≡ meets rule (ranked columns.now frame faults.now) }

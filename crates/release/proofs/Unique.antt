@@ -30,7 +30,7 @@ same-handed in_use candidate protected a b p q =
 pub sheet-to-load-unique : (κs : Lfts 1) (args : _) (a b : Bor (List ℕ)) (s : _) → handed.Learnt κs args a s → handed.Learnt κs args b s → SamePart a b
 sheet-to-load-unique κs args a b s p q = same-handed _ _ _ a b p q
 
--- `load`, whose answer holds a reference, is proved by hand and has no reading: in every model the contract's clause is that the answer is `Loaded`
+-- `load`, whose answer holds a reference, has no reading: in every model the contract's clause is that the answer is `Loaded`
 pub load-says : {M : Type 1} {𝓤 : Ura M} (𝓛 : Logic 𝓤) (mem : Memory → SProp 𝓤) (run : Routine → Fun 𝓤) (κs : Lfts 1) (given : _) (answer : Loading) (left : _)
     → (load.clauses 𝓛 mem run κs given).ensures tt answer left ≡ fact 𝓤 (Loaded given.0 given.1.0 given.1.1.0 answer)
 load-says 𝓛 mem run κs given answer left = refl

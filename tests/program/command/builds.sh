@@ -6,7 +6,7 @@
 trial=0
 unignored() {
     # shellcheck disable=SC2016
-    exec perl -e '$SIG{$_} = "DEFAULT" for qw(HUP INT QUIT TERM); exec @ARGV' env "FQ_TRIAL=$$.$trial" PATH="$copy/bin:$PATH" "$@"
+    exec perl -e '$SIG{$_} = "DEFAULT" for qw(HUP INT QUIT TERM); exec @ARGV' env "FQ_TRIAL=$$.$trial" "$@"
 }
 
 # Whether nothing is left of what was marked last, once it had the time to end.
@@ -33,30 +33,25 @@ stops() {
 # A stand-in for what builds the programs, so that builds are short: it takes a second, says that two crates are proved, and fails where it
 # is told to.
 copy=$work/copy
-copies=$copy${programs#"$PWD"}
 rm -rf "$copy"
-mkdir -p "$copy/bin" "$copy/crates"
+mkdir -p "$copy/crates"
 cp -R desk tools include crates.txt "$copy/"
-cat >"$copy/bin/rt" <<END
+cat >"$copy/tools/prove" <<END
 #!/bin/sh
-case \$1 in
-version | doc) exec $(command -v rt) "\$1" ;;
-esac
-for program in "\$@"; do :; done
-echo "\$program" >>"$copy/builds"
+echo "\$1" >>"$copy/builds"
 : >"$copy/begun"
-echo "rt: sheet proved (3 s)"
+echo "built: sheet proved (3 s)"
 sleep 1 || exit 1
 [ ! -e "$copy/failing" ] || { echo "this build fails"; exit 1; }
-echo "rt: streams proved (unchanged since it was last proved)"
-mkdir -p "$copies" && cp "$programs/\$program" "$copies/"
+echo "built: streams proved (unchanged since it was last proved)"
+made=$(program_of "\$1")
+mkdir -p "\$(dirname "\$made")" && cp "$PWD/\$made" "\$made"
 END
-chmod +x "$copy/bin/rt"
-cp "$copy/bin/rt" "$copy/tools/native"
+cp "$copy/tools/prove" "$copy/tools/native"
 
 # Runs the copy's run command.
 copied() {
-    PATH=$copy/bin:$PATH "$copy/desk" "$@"
+    "$copy/desk" "$@"
 }
 
 : >"$copy/builds"
@@ -75,9 +70,9 @@ ended 'a third run builds nothing' 1 "$a_out" ''
 copied show "$a" >"$work/printed" 2>"$work/said"
 status=$?
 ended 'another command, which builds the other program and tells of each crate' 0 "${a%.sheet}.txt" \
-    "desk: proving and building ${programs#"$PWD/"}/desk, which takes some minutes the first time
-desk: sheet proved (1 of $(crates_below desk), 3 s)
-desk: streams proved (2 of $(crates_below desk), unchanged since it was last proved)"
+    "desk: proving and building $(program_of desk), which takes some minutes the first time
+desk: sheet proved (1 of $(crates_below desk | wc -l), 3 s)
+desk: streams proved (2 of $(crates_below desk | wc -l), unchanged since it was last proved)"
 copied show "$a" >"$work/printed" 2>"$work/said"
 status=$?
 ended 'another command again, which builds nothing' 0 "${a%.sheet}.txt" ''
@@ -109,13 +104,13 @@ chmod -R a-w "$copy"
 if [ "$(id -u)" -eq 0 ]; then
     chmod u+w "$copy" && rm -rf "$copy/target" && chmod a-w "$copy"
     chmod -R a+rX "$copy"
-    setpriv --reuid 65534 --clear-groups env PATH="$copy/bin:$PATH" "$copy/desk" <"$a" >"$work/printed" 2>"$work/said"
+    setpriv --reuid 65534 --clear-groups "$copy/desk" <"$a" >"$work/printed" 2>"$work/said"
     status=$?
     troubled 'a checkout that is not writable' 'is not writable'
 fi
 chmod -R u+w "$copy"
 copied "$a" >/dev/null 2>&1
-: >"$copies/judge"
+: >"$copy/$(program_of judge)"
 copied "$a" >"$work/printed" 2>"$work/said"
 [ $? -eq 2 ] && ! [ -s "$work/printed" ] && grep -q 'desk: the program did not start' "$work/said"
 settle 'a program that does not start' $?

@@ -47,7 +47,7 @@ if [ "$way" != emulated ] && find_command strace strace && strace -o /dev/null t
         if [ "$way" = kit ]; then
             set -- "$@" "$toolchain/lib/ld-linux-x86-64.so.2" --library-path "$toolchain/lib"
         fi
-        strace -e trace=read -o "$@" "$programs/judge"
+        strace -e trace=read -o "$@" "$(program_of judge)"
     }
     reads=$(traced "$work/traced" <"$a" >/dev/null 2>&1; grep -c '^read(0,' "$work/traced")
     before=$(grep '^read(' "$work/traced" | grep -vc '^read(0,')

@@ -5,7 +5,8 @@
 # An installation: it runs without the kit, takes the place of one before it, replaces no other file, and leaves nothing when it goes.
 rm -rf "$work/prefix"
 mkdir -p "$work/prefix/share/man"
-desk install target/command/prefix
+(cd "$work" && exec "$OLDPWD/desk" install prefix) >"$work/printed" 2>"$work/said"
+status=$?
 ended 'an installation' 0 /dev/null ''
 desk install "$work/prefix"
 ended 'an installation in the place of another' 0 /dev/null ''

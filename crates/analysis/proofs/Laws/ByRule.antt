@@ -22,12 +22,12 @@ use Rattle.analysis.specs.Common.Entries.{is_late, entry_from, no_entry, assesse
 use Rattle.analysis.specs.Common.ByRank.{rank_of, ranked, frame_of, ColumnsOf, FaultsOf, RanksOf}
 use Rattle.analysis.specs.Published.Response.{response_within, response_time, passes}
 use Rattle.analysis.specs.Assured.Time.{assured_time, assured}
-use Rattle.analysis.specs.Published.Answers.{entry_of, timed_refusal, timed_answer, choice_refusal, choice_assessment}
-use Rattle.analysis.specs.ByRule.{rule_refusal, meets, judged_refusal, time_by, entry_by, choice_assessment_by, ranked_assessment, meets_answer, place_refusal, timed_by}
+use Rattle.analysis.specs.Published.Answers.{entry_of, timed_refusal, timed_answer, choice_refusal, choice_assessment, least_interval, interval_answer}
+use Rattle.analysis.specs.ByRule.{rule_refusal, meets, judged_refusal, time_by, entry_by, choice_assessment_by, ranked_assessment, meets_answer, place_refusal, timed_by, least_interval_by, interval_answer_by}
 use Rattle.analysis.proofs.Laws.Common.Choice.{allowed-kept, own-last}
 use Rattle.analysis.proofs.Laws.Common.Placing.{ranks}
 use Rattle.analysis.proofs.Laws.Published.Columned.{response-ranked}
-use Rattle.analysis.proofs.Laws.Assured.ByRank.{assured-ranked}
+use Rattle.analysis.proofs.Laws.Assured.ByRank.{assured-ranked, assured-ranked-at}
 
 -- a table that is not refused under a rule is good
 pub rule-good : (rule : Rule) (t : Table) → rule_refusal rule t ≡ 0 → table_refusal t ≡ 0
@@ -93,6 +93,30 @@ module _ (t : Table) (good : table_refusal t ≡ 0) (columns : List ℕ) (filled
       let verdict = ap not late ∙ sym (meets-each rule tasks) in
       simp allowed (λ j. record { refusal = 0; entries = entries j; passes = verdict j })
 
+-- and at every interval they meet a rule exactly if the table's tasks do at it
+module _ (t : Table) (good : table_refusal t ≡ 0) (columns : List ℕ) (filled : ColumnsOf t columns) (choice faults : List ℕ) (beside : FaultsOf t choice faults) {interval : ℕ} {frame : Frame} (framed : frame ≡ frame_of t interval) where
+  abbrev tasks-at : Tasks
+  tasks-at = tasks_of t interval choice
+
+  abbrev held-at : Tasks
+  held-at = ranked columns frame faults
+
+  time-there-at : (rule : Rule) (place : ℕ) → place < t.count → time_by rule held-at (rank_of t place) ≡ time_by rule tasks-at place
+  unfolding time_by response_time
+  time-there-at Published place below =
+      ap (λ (f : Frame). response_within 65535 (ranked columns f faults) (rank_of t place)) framed ∙ response-ranked t good columns filled interval choice faults beside 65535 place below
+  time-there-at Assured place below =
+      ap (λ (f : Frame). assured_time (ranked columns f faults) (rank_of t place)) framed ∙ assured-ranked-at t good columns filled interval choice faults beside place below
+
+  pub meets-there-at : (rule : Rule) → meets rule held-at ≡ meets rule tasks-at
+  meets-there-at rule =
+      meets-each rule held-at
+      ∙ ap (λ (n : ℕ). not (some_below (λ rank. is_late (held-at.at rank).deadline (time_by rule held-at rank)) n)) (ap (λ (f : Frame). f.count) framed)
+      ∙ ap not
+      (sym (some-reordered t.count (rank_of t) (ranks t good) (λ rank. is_late (held-at.at rank).deadline (time_by rule held-at rank)))
+      ∙ some-agree t.count (λ place below. ap₂ is_late (filled place below).deadline (time-there-at rule place below)))
+      ∙ sym (meets-each rule tasks-at)
+
 -- where a choice is not refused, the verdict is whether it meets
 pub assessed-meets : (rule : Rule) (t : Table) (choice : List ℕ) → judged_refusal rule t choice ≡ 0 → (choice_assessment_by rule t choice).passes ≡ meets rule (tasks_of t t.interval choice)
 unfolding choice_assessment_by assessed
@@ -111,3 +135,7 @@ assessed-published t choice = refl
 pub timed-published : (t : Table) (place : ℕ) → timed_by Published t place ≡ timed_answer t place
 unfolding timed_by timed_answer place_refusal timed_refusal rule_refusal entry_by time_by entry_of
 timed-published t place = refl
+
+pub interval-published : (t : Table) → interval_answer_by Published t ≡ interval_answer t
+unfolding interval_answer_by least_interval_by interval_answer least_interval rule_refusal meets
+interval-published t = refl

@@ -11,7 +11,7 @@ use crate::published::response;
 use sheet::Table;
 
 // A frame at another fault interval.
-fn at_interval(frame: Frame, interval: u16) -> Frame
+pub fn at_interval(frame: Frame, interval: u16) -> Frame
     ensures { result ≡ at_interval frame interval }
 {
     Frame {

@@ -40,7 +40,7 @@ fn backup_from_fault<'a>(
 }
 
 // The time of the task at a rank when faults strike other tasks only, or 0.
-fn elsewhere<'a>(
+pub fn elsewhere<'a>(
     columns: &'a [u16; 32],
     faults: &'a [u8; 8],
     frame: Frame,
@@ -64,7 +64,7 @@ fn elsewhere<'a>(
 }
 
 // The time of the task at a rank when the first fault strikes it, or 0.
-fn itself<'a>(
+pub fn itself<'a>(
     columns: &'a [u16; 32],
     faults: &'a [u8; 8],
     frame: Frame,

@@ -58,9 +58,14 @@ assured-unfaulted : (s : Tasks) (i : ℕ) → assured_time (unfaulted s) i ≡ a
 unfolding assured_time assured_within assured_equation asked_assured is_over backup_ahead is_ahead
 assured-unfaulted s i = refl
 
--- the assured time of the record at a place, out of the columns
+-- the assured time of the record at a place, out of the columns, at an interval
+pub assured-ranked-at : (t : Table) → table_refusal t ≡ 0 → (columns : List ℕ) → ColumnsOf t columns → (interval : ℕ) (choice faults : List ℕ) → FaultsOf t choice faults → (place : ℕ) → place < t.count
+    → assured_time (ranked columns (frame_of t interval) faults) (rank_of t place) ≡ assured_time (tasks_of t interval choice) place
+assured-ranked-at t good columns filled interval choice faults beside place below =
+    assured-time-held (unfaulted (tasks_of t interval choice)) (ranked columns (frame_of t interval) faults) (rank_of t) (same-ranked t good columns filled interval choice faults beside) place below
+    ∙ assured-unfaulted (tasks_of t interval choice) place
+
+-- and at the table's own
 pub assured-ranked : (t : Table) → table_refusal t ≡ 0 → (columns : List ℕ) → ColumnsOf t columns → (choice faults : List ℕ) → FaultsOf t choice faults → (place : ℕ) → place < t.count
     → assured_time (ranked columns (frame_of t t.interval) faults) (rank_of t place) ≡ assured_time (tasks_of t t.interval choice) place
-assured-ranked t good columns filled choice faults beside place below =
-    assured-time-held (unfaulted (tasks_of t t.interval choice)) (ranked columns (frame_of t t.interval) faults) (rank_of t) (same-ranked t good columns filled t.interval choice faults beside) place below
-    ∙ assured-unfaulted (tasks_of t t.interval choice) place
+assured-ranked t good columns filled = assured-ranked-at t good columns filled t.interval

@@ -18,12 +18,20 @@ use Rattle.analysis.proofs.Demands.{fails-at-1}
 use Rattle.analysis.proofs.Laws.Common.Choice.{own-allowed}
 use Rattle.analysis.proofs.Laws.Common.Columned.{unfaulted, same-ranked, ranked-order, ranked-chosen}
 use Rattle.analysis.proofs.Laws.Published.Halving.{Kept, passing_kept, Between}
-use Rattle.analysis.proofs.Laws.Published.Reordered.{response-held, passes-held}
+use Rattle.analysis.proofs.Laws.Published.Reordered.{time-elsewhere-held, time-itself-held, response-held, passes-held}
 
 -- a record's own fault priority plays no part beside those of a choice
 response-unfaulted : (limit : ℕ) (s : Tasks) (i : ℕ) → response_within limit (unfaulted s) i ≡ response_within limit s i
 unfolding response_within time_elsewhere time_itself struck_elsewhere struck_itself asked_elsewhere asked_itself is_between backup_elsewhere backup_from_fault largest_backup backup_of
 response-unfaulted limit s i = refl
+
+elsewhere-unfaulted : (limit : ℕ) (s : Tasks) (i : ℕ) → time_elsewhere limit (unfaulted s) i ≡ time_elsewhere limit s i
+unfolding time_elsewhere struck_elsewhere asked_elsewhere backup_elsewhere largest_backup backup_of
+elsewhere-unfaulted limit s i = refl
+
+itself-unfaulted : (limit : ℕ) (s : Tasks) (i : ℕ) → time_itself limit (unfaulted s) i ≡ time_itself limit s i
+unfolding time_itself struck_itself asked_itself is_between backup_from_fault largest_backup backup_of
+itself-unfaulted limit s i = refl
 
 passes-unfaulted : (s : Tasks) → passes (unfaulted s) ≡ passes s
 unfolding passes response_time response_within time_elsewhere time_itself struck_elsewhere struck_itself asked_elsewhere asked_itself is_between backup_elsewhere backup_from_fault largest_backup backup_of
@@ -40,6 +48,15 @@ module _ (t : Table) (good : table_refusal t ≡ 0) (columns : List ℕ) (filled
   pub response-ranked : (limit place : ℕ) → place < t.count → response_within limit held (rank_of t place) ≡ response_within limit tasks place
   response-ranked limit place below =
       sym (response-held (unfaulted tasks) held (rank_of t) (same-ranked t good columns filled interval choice faults beside) place below limit) ∙ response-unfaulted limit tasks place
+
+  -- and so is each of the two that it is the larger of
+  pub elsewhere-ranked : (limit place : ℕ) → place < t.count → time_elsewhere limit held (rank_of t place) ≡ time_elsewhere limit tasks place
+  elsewhere-ranked limit place below =
+      sym (time-elsewhere-held (unfaulted tasks) held (rank_of t) (same-ranked t good columns filled interval choice faults beside) place below limit) ∙ elsewhere-unfaulted limit tasks place
+
+  pub itself-ranked : (limit place : ℕ) → place < t.count → time_itself limit held (rank_of t place) ≡ time_itself limit tasks place
+  itself-ranked limit place below =
+      sym (time-itself-held (unfaulted tasks) held (rank_of t) (same-ranked t good columns filled interval choice faults beside) place below limit) ∙ itself-unfaulted limit tasks place
 
   -- and the verdict is the same
   pub passes-ranked : passes held ≡ passes tasks

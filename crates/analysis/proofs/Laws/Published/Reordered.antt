@@ -64,11 +64,12 @@ module _ (s held : Tasks) (rank : ℕ → ℕ) (same : SameTasks s held rank) wh
     unfolding struck_itself is_between asked_itself
     itself-held L = asked-itself-held (s.fault i) (backup_from_fault s i) L ∙ ap₂ (λ (q N : ℕ). asked_itself held (rank i) q N L) (sym (same.fault i low)) backup-itself-held
 
-    time-elsewhere-held : (limit : ℕ) → time_elsewhere limit s i ≡ time_elsewhere limit held (rank i)
+    -- each of the two times, within every limit
+    pub time-elsewhere-held : (limit : ℕ) → time_elsewhere limit s i ≡ time_elsewhere limit held (rank i)
     unfolding time_elsewhere
     time-elsewhere-held limit = ap (λ (f : ℕ → ℕ). least_within f 1 limit) (fun_ext elsewhere-held)
 
-    time-itself-held : (limit : ℕ) → time_itself limit s i ≡ time_itself limit held (rank i)
+    pub time-itself-held : (limit : ℕ) → time_itself limit s i ≡ time_itself limit held (rank i)
     unfolding time_itself
     time-itself-held limit = ap (λ (f : ℕ → ℕ). least_within f 1 limit) (fun_ext itself-held)
 
