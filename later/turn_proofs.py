@@ -520,10 +520,6 @@ def convert(info, path, crate, module, muts):
     head, uses, decls = split_decls(text)
     fn = Fn(info, muts)
     inv, ans, helpers = [], [], []
-    tie_of = {}
-    local = {d["name"]: d for d in decls}
-    invnames = {}
-    out_decl = []
     for d in decls:
         t = d["text"]
         m = re.match(r"(?:abbrev )?(?:pub )?(" + IDENT + r") :\s*tie\.(invariant|decreases)-([\w-]+)", t)
@@ -549,9 +545,6 @@ def convert(info, path, crate, module, muts):
                 w = mt.group(0)
                 return table.get(w, w)
             def subst_names(b):
-                bound = set(re.findall(r"λ \(?([\w'₀-₉]+)", b))
-                for x in bound & set(table):
-                    b = re.sub(r"(?<![\w.'₀-₉-])" + re.escape(x) + r"(?![\w'₀-₉-])", x + "ᵢ", b) if False else b
                 return re.sub(r"(?<![\w.'₀-₉-])[a-zA-Z_][\w'₀-₉]*(?:-[\w'₀-₉]+)*(?![\w'₀-₉-])(?!\s*=[^=])", sub, b)
             # protect λ-bound names: rename inside the λ body only when safe
             bound = set(re.findall(r"λ \(?([\w'₀-₉]+)", b)) & set(table)
@@ -577,7 +570,6 @@ def convert(info, path, crate, module, muts):
             b = subst_names(b)
             pre = "invariant-" if m.group(2) == "invariant" else "decreases-"
             inv.append("\n".join(d["comment"]) + ("\n" if d["comment"] else "") + f"abbrev pub {pre}{new} : goal.{pre}{new}\n{pre}{new} l ={b}")
-            invnames[m.group(1)] = pre + new
             continue
         m = re.match(r"(?:pub )?(" + IDENT + r") :\s*tie\.Need-([\w-]+)((?:\s+(?:invariant|decreases)-[\w-]+)*)\s*\n(.*)$", t, re.S)
         if m:
@@ -596,7 +588,7 @@ def convert(info, path, crate, module, muts):
             me = re.match(re.escape(name) + r"((?:\s+[\w'₀-₉κς_]+)*)\s*=(.*)$", rest, re.S)
             if not me:
                 fn.notes.append(f"goal {old}: cannot be read")
-                out_decl.append(d); continue
+                continue
             params, body = me.group(1).split(), me.group(2)
             if body.strip() in ("search rules", "omega arith") and not unf:
                 continue
@@ -716,8 +708,6 @@ def convert(info, path, crate, module, muts):
         both = [d["name"] for d in helpers if d["name"] in moved and cites(body, d["name"])]
         if both: us.append(f"use {module}.Invariants.{{{', '.join(both)}}}")
         o = (title + "\n" if title else "") + "\n".join(us + [f"use {module}.Goals as goal"]) + "\n\n" + body + "\n"
-        for old, new in invnames.items():
-            o = re.sub(r"(?<![\w.'₀-₉-])" + re.escape(old) + r"(?![\w'₀-₉-])", "the-" + new, o) if False else o
         open(os.path.join(base, "Answers.antt"), "w").write(o)
         made.append("A")
     os.remove(path)
