@@ -17,7 +17,7 @@ use Rattle.sheet.specs.declared.Table.{Table}
 use Rattle.sheet.specs.Layout.{record_at}
 use Rattle.sheet.specs.Rules.{table_refusal}
 use Rattle.sheet.proofs.Cases.{good-table}
-use Rattle.analysis.specs.declared.Assessment.{Assessment}
+use Rattle.analysis.specs.Told.{Assessment}
 use Rattle.analysis.specs.declared.Entry.{Entry}
 use Rattle.analysis.specs.Common.Tasks.{Tasks, tasks_of, own_choice}
 use Rattle.analysis.specs.Published.Response.{response_within, response_time, late, passes}

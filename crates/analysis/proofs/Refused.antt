@@ -21,7 +21,7 @@ use Rattle.analysis.specs.declared.Entry.{Entry}
 use Rattle.analysis.specs.declared.Outcome.TheVariants.{OnTime, Late}
 use Rattle.analysis.specs.declared.Rule.{Rule}
 use Rattle.analysis.specs.declared.Slack.TheVariants.{Figure}
-use Rattle.analysis.specs.declared.Interval.TheVariants.{Refused, Least, Nothing}
+use Rattle.analysis.specs.Told.Interval.{Refused, Least, Nothing}
 use Rattle.analysis.specs.Common.Tasks.{Tasks, tasks_of}
 use Rattle.analysis.specs.Published.Response.{response_time, late, passes}
 use Rattle.analysis.specs.Common.Columns.{priorities_of}

@@ -3,3 +3,4 @@ pub mod Limits
 pub mod Hopeless
 pub mod Found
 pub mod Within
+pub mod Lent

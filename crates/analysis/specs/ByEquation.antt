@@ -5,7 +5,7 @@ use Rattle.analysis.specs.declared.Rule.{Rule}
 use Rattle.analysis.specs.declared.Rule.TheVariants.{Published, Assured}
 use Rattle.analysis.specs.declared.Equation.{Equation}
 use Rattle.analysis.specs.declared.Equation.TheVariants.{Elsewhere, Itself, Assurance}
-use Rattle.analysis.specs.declared.Solution.{Solution}
+use Rattle.analysis.specs.Told.{Solution}
 use Rattle.analysis.specs.Common.Tasks.{Tasks}
 use Rattle.analysis.specs.Common.Entries.{own_tasks}
 use Rattle.analysis.specs.Published.Equations.{struck_elsewhere, struck_itself}

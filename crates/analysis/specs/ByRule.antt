@@ -6,10 +6,7 @@ use Rattle.places.specs.Refusals.{or_else}
 use Rattle.sheet.specs.declared.Table.{Table}
 use Rattle.sheet.specs.Rules.{table_refusal, whole_refusal}
 use Rattle.analysis.specs.declared.Entry.{Entry}
-use Rattle.analysis.specs.declared.Timed.{Timed}
-use Rattle.analysis.specs.declared.Assessment.{Assessment}
-use Rattle.analysis.specs.declared.Verdict.{Verdict}
-use Rattle.analysis.specs.declared.Interval.{Interval}
+use Rattle.analysis.specs.Told.{Timed, Assessment, Verdict, Interval}
 use Rattle.analysis.specs.declared.Rule.{Rule}
 use Rattle.analysis.specs.declared.Rule.TheVariants.{Published, Assured}
 use Rattle.analysis.specs.Common.Tasks.{Tasks, tasks_of, own_choice}

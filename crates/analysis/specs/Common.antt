@@ -1,4 +1,4 @@
--- What both rules share: rounding up, what the equations read, the choices of fault priorities and what an answer says of a time; then Columns, Demand, ByRank and Jump, inner devices that no public promise cites.
+-- What both rules share: rounding up, what the equations read, the choices of fault priorities and what an answer says of a time; then Columns, Demand, ByRank, Jump and Lent, inner devices that no public promise cites.
 pub mod Rounding
 pub mod Tasks
 pub mod Search
@@ -10,3 +10,4 @@ pub mod Columns
 pub mod Demand
 pub mod ByRank
 pub mod Jump
+pub mod Lent

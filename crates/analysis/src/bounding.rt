@@ -1,49 +1,37 @@
 // How large a backup each record bears, and whether a choice stays within that.
-ghost use Rattle.std.specs.Prelude.{◌≡◌, cond};
-ghost use Rattle.sheet.specs.Rules.{table_refusal};
-ghost use Rattle.analysis.specs.Bounds.Found.{no_bounds, found_bounds};
-ghost use Rattle.analysis.specs.Bounds.Hopeless.{none_meets};
+ghost use Rattle.std.specs.Prelude.{◌≡◌};
+ghost use Rattle.places.specs.Answered.{answered};
+ghost use Rattle.analysis.specs.Told.{limits_told};
+ghost use Rattle.analysis.specs.Bounds.Found.{bounds_of};
 
 use crate::common::{by_rank, columns};
-use crate::{Bounds, Rule};
+use crate::{Bounds, Rule, judge_rule};
+use places::refusal::Refusal;
 use sheet::Table;
 
 pub mod hopeless;
 pub mod limits;
+pub mod weighed;
 pub mod within;
 
-// No bounds: those of a refused table beside its number, or beside 0 those of a table of which no choice meets the rule.
-pub fn none(refusal: u8) -> Bounds
-    ensures { result ≡ no_bounds refusal }
+// The bounds of a table under a rule, or none where a few searches tell that no choice meets it. All is found over the same tasks by rank.
+pub fn found(table: Table, rule: Rule) -> Result<Option<Bounds>, Refusal>
+    ensures { result ≡ answered (bounds_of rule table).refusal (limits_told (bounds_of rule table)) }
 {
-    Bounds {
-        refusal,
-        count: 0,
-        priorities: [0u8; 8],
-        backups: [0u16; 8],
-        limits: [0u32; 72],
-    }
-}
-
-// The bounds of a good table under a rule, or none where a few searches tell that no choice meets it. All is found over the same columns by rank.
-pub fn found(table: Table, rule: Rule) -> Bounds
-    requires { table_refusal table ≡ 0 }
-    ensures { result ≡ cond (none_meets table) (no_bounds 0) (found_bounds rule table) }
-{
+    judge_rule(table, rule)?;
     let mut ranked = [0u16; 32];
-    by_rank::put(table, &mut ranked);
-    if hopeless::none_meets(table, &ranked) {
-        return none(0);
+    let tasks = by_rank::ordered(table, &mut ranked);
+    if hopeless::none_meets(table, &tasks) {
+        return Ok(None);
     }
     let columns = columns::columns_of(table);
     let priorities = columns.priorities;
     let backups = columns.backups;
-    let limits = limits::limits_in(table, &ranked, rule);
-    Bounds {
-        refusal: 0,
+    let limits = limits::limits_in(table, &tasks, rule);
+    Ok(Some(Bounds {
         count: table.count,
         priorities,
         backups,
         limits,
-    }
+    }))
 }

@@ -6,3 +6,6 @@ pub mod columns;
 pub mod entries;
 pub mod jump;
 pub mod load;
+pub mod search;
+pub mod taken;
+pub mod tasks;

@@ -1,18 +1,23 @@
 // Response times, the verdict and the least fault interval of a timing table, by the equations of documents 01 and 02.
-// Every call answers any table: a refused one gets its number, beside zeros, no, or nothing else.
+// Every call answers any table; one that is refused, with the refusal.
 #![tactic(auto)]
 
 ghost use Rattle.std.specs.Prelude.{◌≡◌};
+ghost use Rattle.places.specs.Answered.{answered};
+ghost use Rattle.analysis.specs.Told.{times_told, some_of, least_told, limits_told};
 ghost use Rattle.analysis.specs.Published.Answers.{timed_answer, choice_refusal, choice_assessment, own_assessment, interval_answer};
 ghost use Rattle.analysis.specs.ByRule.{rule_refusal, judged_refusal, choice_assessment_by, own_assessment_by, meets_answer, own_meets, place_refusal, timed_by, interval_answer_by};
 ghost use Rattle.analysis.specs.ByEquation.{solution_of};
 ghost use Rattle.analysis.specs.BySheet.{timed_in, assessed_in};
 ghost use Rattle.analysis.specs.Bounds.Found.{bounds_of};
-ghost use Rattle.analysis.specs.Bounds.Within.{bounds_in, within_answer};
+ghost use Rattle.analysis.specs.Bounds.Within.{within_answer};
+ghost use Rattle.analysis.specs.Bounds.Lent.{bounds_lent};
 
+use crate::bounding::weighed::Weighed;
 use crate::bounding::within;
-use crate::common::{choice, entries};
-use crate::published::interval;
+use crate::common::choice;
+use crate::common::tasks::Task;
+use places::refusal::Refusal;
 use sheet::Table;
 
 mod assured;
@@ -47,27 +52,11 @@ pub struct Entry {
     pub slack: Slack,
 }
 
-// What `response_time`, `time_by` and `time_in` answer: the refusal, or 0 beside the record's entry.
-#[derive(Clone, Copy)]
-pub struct Timed {
-    pub refusal: u8,
-    pub entry: Entry,
-}
-
-// What `assess`, `assess_choice`, both by a rule and `assess_in` answer: the refusal, or 0 beside an entry for each record and whether no task is late.
+// What `assess`, `assess_choice`, both by a rule and `assess_in` answer: an entry for each record and whether no task is late.
 #[derive(Clone, Copy)]
 pub struct Assessment {
-    pub refusal: u8,
     pub entries: [Entry; 8],
     pub passes: bool,
-}
-
-// What `least_interval` and `least_interval_by` answer.
-#[derive(Clone, Copy)]
-pub enum Interval {
-    Refused(u8),
-    Least(u16),
-    Nothing,
 }
 
 // The rule that a choice of fault priorities is judged by: the published equations, or the assured equation.
@@ -85,13 +74,6 @@ pub enum Equation {
     Assurance,
 }
 
-// What `time_of` answers: the refusal, or 0 beside the time, 0 where the equation has none.
-#[derive(Clone, Copy)]
-pub struct Solution {
-    pub refusal: u8,
-    pub time: u16,
-}
-
 // The priorities and the backups of a table's records in record order, 0 past the count.
 #[derive(Clone, Copy)]
 pub struct Columns {
@@ -99,27 +81,19 @@ pub struct Columns {
     pub backups: [u16; 8],
 }
 
-// How large a backup each record of a table bears under a rule: the refusal, or 0 beside the count, 0 where no choice meets the rule, the records' priorities and backups in record order, and the limits of each, one more
-// than the largest backup that it bears or 0; for the record at a place as M at 9 times the place, as N under a fault priority q at 9 times the place plus q.
+// How large a backup each record of a table bears under a rule: the count, the records' priorities and backups in record order, and the limits of each, one more than the largest backup that it bears or 0;
+// for the record at a place as M at 9 times the place, as N under a fault priority q at 9 times the place plus q.
 #[derive(Clone, Copy)]
 pub struct Bounds {
-    pub refusal: u8,
     pub count: u8,
     pub priorities: [u8; 8],
     pub backups: [u16; 8],
     pub limits: [u32; 72],
 }
 
-// What `meets_choice`, `meets_by` and `meets_lent` answer: the refusal, or 0 beside yes or no.
-#[derive(Clone, Copy)]
-pub struct Verdict {
-    pub refusal: u8,
-    pub yes: bool,
-}
-
 // The refusal of a table under a rule: the table's own, then 19 where the rule speaks of the whole processor.
-pub fn judge_rule(table: Table, rule: Rule) -> u8
-    ensures { result ≡ rule_refusal rule table }
+pub fn judge_rule(table: Table, rule: Rule) -> Result<(), Refusal>
+    ensures { result ≡ answered (rule_refusal rule table) tt }
 {
     match rule {
         Rule::Published => sheet::judge_table(table),
@@ -128,223 +102,160 @@ pub fn judge_rule(table: Table, rule: Rule) -> u8
 }
 
 // The refusal of a choice under a rule: that of the table, then 13.
-pub fn judge_choice_by(table: Table, choice: [u8; 8], rule: Rule) -> u8
-    ensures { result ≡ judged_refusal rule table choice }
+pub fn judge_choice_by(table: Table, choice: [u8; 8], rule: Rule) -> Result<(), Refusal>
+    ensures { result ≡ answered (judged_refusal rule table choice) tt }
 {
-    let refusal = judge_rule(table, rule);
-    if refusal != 0 {
-        return refusal;
-    }
+    judge_rule(table, rule)?;
     if choice::all_allowed(table, choice) {
-        0
+        Ok(())
     } else {
-        13
+        Err(Refusal::BadChoice)
     }
 }
 
 // The refusal of a choice of fault priorities: the table's own, then 13.
-pub fn judge_choice(table: Table, choice: [u8; 8]) -> u8
-    ensures { result ≡ choice_refusal table choice }
+pub fn judge_choice(table: Table, choice: [u8; 8]) -> Result<(), Refusal>
+    ensures { result ≡ answered (choice_refusal table choice) tt }
 {
     judge_choice_by(table, choice, Rule::Published)
 }
 
 // The refusal under a rule of asking for the record at a place: that of the table, then 12.
-fn judge_record_place(table: Table, place: usize, rule: Rule) -> u8
-    ensures { result ≡ place_refusal rule table place }
+fn judge_record_place(table: Table, place: usize, rule: Rule) -> Result<(), Refusal>
+    ensures { result ≡ answered (place_refusal rule table place) tt }
 {
-    let refusal = judge_rule(table, rule);
-    if refusal != 0 {
-        return refusal;
+    judge_rule(table, rule)?;
+    if place < table.count as usize {
+        Ok(())
+    } else {
+        Err(Refusal::BadPlace)
     }
-    if place < table.count as usize { 0 } else { 12 }
 }
 
 // The time by a rule, or late, of the record at a place, beside its deadline.
-pub fn time_by(table: Table, place: usize, rule: Rule) -> Timed
-    ensures { result ≡ timed_by rule table place }
+pub fn time_by(table: Table, place: usize, rule: Rule) -> Result<Entry, Refusal>
+    ensures { result ≡ answered (timed_by rule table place).refusal (timed_by rule table place).entry }
 {
-    let refusal = judge_record_place(table, place, rule);
-    if refusal != 0 {
-        return Timed {
-            refusal,
-            entry: entries::no_entry(),
-        };
-    }
-    let entry = by_rule::entry_of(table, choice::own_choice(table), place, rule);
-    Timed { refusal: 0, entry }
+    judge_record_place(table, place, rule)?;
+    Ok(by_rule::entry_of(table, choice::own_choice(table), place, rule))
 }
 
 // The response time, or late, of the record at a place, beside its deadline.
-pub fn response_time(table: Table, place: usize) -> Timed
-    ensures { result ≡ timed_answer table place }
+pub fn response_time(table: Table, place: usize) -> Result<Entry, Refusal>
+    ensures { result ≡ answered (timed_answer table place).refusal (timed_answer table place).entry }
 {
     time_by(table, place, Rule::Published)
 }
 
-// The time by one of the equations of the record at a place, searched for up to 65,535, or 0.
-pub fn time_of(table: Table, place: usize, equation: Equation) -> Solution
-    ensures { result ≡ solution_of equation table place }
+// The time by one of the equations of the record at a place, searched for up to 65,535, where it has one.
+pub fn time_of(table: Table, place: usize, equation: Equation) -> Result<Option<u16>, Refusal>
+    ensures { result ≡ answered (solution_of equation table place).refusal (some_of (solution_of equation table place).time) }
 {
-    let refusal = judge_record_place(table, place, by_equation::rule_of(equation));
-    if refusal != 0 {
-        return Solution { refusal, time: 0 };
-    }
-    let time = by_equation::time_under(table, choice::own_choice(table), place, equation);
-    Solution { refusal: 0, time }
+    judge_record_place(table, place, by_equation::rule_of(equation))?;
+    Ok(by_equation::time_under(table, choice::own_choice(table), place, equation))
 }
 
 // The time by a rule, or late, of a sheet's bytes, which are read straight into columns: the sheet's own refusal comes first.
-pub fn time_in(sheet: &[u8], place: usize, rule: Rule) -> Timed
-    ensures { result ≡ timed_in rule sheet.now place }
+pub fn time_in(sheet: &[u8], place: usize, rule: Rule) -> Result<Entry, Refusal>
+    ensures { result ≡ answered (timed_in rule sheet.now place).refusal (timed_in rule sheet.now place).entry }
 {
     let mut columns = [0u16; 32];
     let mut faults = [0u8; 8];
     let mut ranks = [0u8; 8];
-    let read = sheet::read_ranked(sheet, &mut columns, &mut faults, &mut ranks);
-    let refusal = by_sheet::judge_place(read, place, rule);
-    if refusal != 0 {
-        return Timed {
-            refusal,
-            entry: entries::no_entry(),
-        };
-    }
-    let frame = by_sheet::frame_of(read);
+    let frame = by_sheet::read_at(sheet, place, rule, &mut columns, &mut faults, &mut ranks)?;
+    let among = by_sheet::chosen(frame, &columns, &faults);
     let rank = ranks[place] as usize;
-    let entry = by_rule::entry_at(&columns, &faults, frame, rank, rule);
-    Timed { refusal: 0, entry }
+    Ok(Task { among, rank }.entry(rule))
 }
 
 // Each record's entry by a rule, and whether no task is late by it, under a choice that takes the place of the table's own fault priorities.
-pub fn assess_choice_by(table: Table, choice: [u8; 8], rule: Rule) -> Assessment
-    ensures { result ≡ choice_assessment_by rule table choice }
+pub fn assess_choice_by(table: Table, choice: [u8; 8], rule: Rule) -> Result<Assessment, Refusal>
+    ensures { result ≡ answered (choice_assessment_by rule table choice).refusal (times_told (choice_assessment_by rule table choice)) }
 {
-    let refusal = judge_choice_by(table, choice, rule);
-    if refusal != 0 {
-        return entries::no_times(refusal);
-    }
     by_rule::assessment(table, choice, rule)
 }
 
 // The same under the table's own fault priorities, which are a choice of every good table.
-pub fn assess_by(table: Table, rule: Rule) -> Assessment
-    ensures { result ≡ own_assessment_by rule table }
+pub fn assess_by(table: Table, rule: Rule) -> Result<Assessment, Refusal>
+    ensures { result ≡ answered (own_assessment_by rule table).refusal (times_told (own_assessment_by rule table)) }
 {
     assess_choice_by(table, choice::own_choice(table), rule)
 }
 
 // Each record's entry, and whether no task is late, under a choice.
-pub fn assess_choice(table: Table, choice: [u8; 8]) -> Assessment
-    ensures { result ≡ choice_assessment table choice }
+pub fn assess_choice(table: Table, choice: [u8; 8]) -> Result<Assessment, Refusal>
+    ensures { result ≡ answered (choice_assessment table choice).refusal (times_told (choice_assessment table choice)) }
 {
     assess_choice_by(table, choice, Rule::Published)
 }
 
 // The same under the table's own fault priorities.
-pub fn assess(table: Table) -> Assessment
-    ensures { result ≡ own_assessment table }
+pub fn assess(table: Table) -> Result<Assessment, Refusal>
+    ensures { result ≡ answered (own_assessment table).refusal (times_told (own_assessment table)) }
 {
     assess_by(table, Rule::Published)
 }
 
 // The same by a rule, of a sheet's bytes, which are read straight into columns: the sheet's own refusal comes first.
-pub fn assess_in(sheet: &[u8], rule: Rule) -> Assessment
-    ensures { result ≡ assessed_in rule sheet.now }
+pub fn assess_in(sheet: &[u8], rule: Rule) -> Result<Assessment, Refusal>
+    ensures { result ≡ answered (assessed_in rule sheet.now).refusal (times_told (assessed_in rule sheet.now)) }
 {
     let mut columns = [0u16; 32];
     let mut faults = [0u8; 8];
     let mut ranks = [0u8; 8];
-    let read = sheet::read_ranked(sheet, &mut columns, &mut faults, &mut ranks);
-    let refusal = by_sheet::judge(read, rule);
-    if refusal != 0 {
-        return entries::no_times(refusal);
-    }
-    by_rule::assessed(&columns, &faults, &ranks, by_sheet::frame_of(read), rule)
+    let frame = by_sheet::read(sheet, rule, &mut columns, &mut faults, &mut ranks)?;
+    Ok(by_sheet::chosen(frame, &columns, &faults).assessed(&ranks, rule))
 }
 
-// The smallest fault interval at which the table passes with its own fault priorities.
-pub fn least_interval(table: Table) -> Interval
-    ensures { result ≡ interval_answer table }
+// The smallest fault interval at which the table passes with its own fault priorities, where it does at one.
+pub fn least_interval(table: Table) -> Result<Option<u16>, Refusal>
+    ensures { result ≡ least_told (interval_answer table) }
 {
-    let refusal = sheet::judge_table(table);
-    if refusal != 0 {
-        return Interval::Refused(refusal);
-    }
-    let least = interval::least(table);
-    if least == 0 {
-        return Interval::Nothing;
-    }
-    Interval::Least(least)
+    least_interval_by(table, Rule::Published)
 }
 
 // The same by a rule: the smallest one at which the table meets it.
-pub fn least_interval_by(table: Table, rule: Rule) -> Interval
-    ensures { result ≡ interval_answer_by rule table }
+pub fn least_interval_by(table: Table, rule: Rule) -> Result<Option<u16>, Refusal>
+    ensures { result ≡ least_told (interval_answer_by rule table) }
 {
-    let refusal = judge_rule(table, rule);
-    if refusal != 0 {
-        return Interval::Refused(refusal);
-    }
-    let least = halving::least(table, rule);
-    if least != 0 {
-        return Interval::Least(least);
-    }
-    Interval::Nothing
+    judge_rule(table, rule)?;
+    Ok(halving::least(table, rule))
 }
 
 // How large a backup each record bears under a rule, found by at most ten searches for each record and each fault priority that it can have, and for M;
-// zeros beside 0 where a few searches tell that no choice meets the rule.
-pub fn bounds_of(table: Table, rule: Rule) -> Bounds
-    ensures { result ≡ bounds_of rule table }
+// none where a few searches tell that no choice meets the rule.
+pub fn bounds_of(table: Table, rule: Rule) -> Result<Option<Bounds>, Refusal>
+    ensures { result ≡ answered (bounds_of rule table).refusal (limits_told (bounds_of rule table)) }
 {
-    let refusal = judge_rule(table, rule);
-    if refusal != 0 {
-        return bounding::none(refusal);
-    }
     bounding::found(table, rule)
 }
 
-// Whether a choice stays within bounds under a rule, which are lent field by field, so that no choice costs a copy of them: for those of a good table and a choice that it has, whether it meets the rule.
-pub fn meets_lent<'a>(
-    refusal: u8,
-    count: u8,
-    priorities: &'a [u8; 8],
-    backups: &'a [u16; 8],
-    limits: &'a [u32; 72],
-    choice: &'a [u8; 8],
-    rule: Rule,
-) -> Verdict
-    ensures { result ≡ within_answer rule (bounds_in refusal count priorities.now backups.now limits.now) choice.now }
+// Whether a choice stays within bounds under a rule, which are lent, so that no choice costs a copy of them: for those of a good table and a choice that it has, whether it meets the rule.
+pub fn meets_lent<'a>(bounds: &'a Bounds, choice: &'a [u8; 8], rule: Rule) -> Result<bool, Refusal>
+    ensures { result ≡ answered (within_answer rule (bounds_lent bounds.now) choice.now).refusal (within_answer rule (bounds_lent bounds.now) choice.now).yes }
 {
-    let number = within::judge(refusal, count);
-    if number != 0 {
-        return Verdict {
-            refusal: number,
-            yes: false,
-        };
-    }
-    let yes = within::within(priorities, backups, limits, choice, count, rule);
-    Verdict { refusal: 0, yes }
+    within::judge(bounds.count)?;
+    let weighed = Weighed {
+        priorities: &bounds.priorities,
+        backups: &bounds.backups,
+        limits: &bounds.limits,
+        choice,
+        count: bounds.count,
+    };
+    Ok(weighed.within(rule))
 }
 
 // Whether a choice meets a rule, found without its times: yes or no is all that is asked of each task.
-pub fn meets_choice(table: Table, choice: [u8; 8], rule: Rule) -> Verdict
-    ensures { result ≡ meets_answer rule table choice }
+pub fn meets_choice(table: Table, choice: [u8; 8], rule: Rule) -> Result<bool, Refusal>
+    ensures { result ≡ answered (meets_answer rule table choice).refusal (meets_answer rule table choice).yes }
 {
-    let number = judge_choice_by(table, choice, rule);
-    if number != 0 {
-        return Verdict {
-            refusal: number,
-            yes: false,
-        };
-    }
-    let yes = meeting::meets(table, choice, rule);
-    Verdict { refusal: 0, yes }
+    judge_choice_by(table, choice, rule)?;
+    Ok(meeting::meets(table, choice, rule))
 }
 
 // The same under the table's own fault priorities.
-pub fn meets_by(table: Table, rule: Rule) -> Verdict
-    ensures { result ≡ own_meets rule table }
+pub fn meets_by(table: Table, rule: Rule) -> Result<bool, Refusal>
+    ensures { result ≡ answered (own_meets rule table).refusal (own_meets rule table).yes }
 {
     meets_choice(table, choice::own_choice(table), rule)
 }

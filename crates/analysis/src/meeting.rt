@@ -1,29 +1,39 @@
 // Whether a choice meets a rule, yes or no: each task is asked about its deadline only, from the lowest up, and the first that misses it decides.
-ghost use Rattle.std.specs.Prelude.{◌≡◌};
+ghost use Rattle.std.specs.Prelude.{◌≡◌, get_or, ◌+◌};
+ghost use Rattle.analysis.specs.Common.Entries.{is_late};
 ghost use Rattle.analysis.specs.Common.Tasks.{tasks_of};
-ghost use Rattle.analysis.specs.Common.ByRank.{ranked, InOrder, ChosenIn};
-ghost use Rattle.analysis.specs.ByRule.{meets, judged_refusal};
+ghost use Rattle.analysis.specs.Common.Lent.{chosen_in};
+ghost use Rattle.analysis.specs.ByRule.{time_by, meets, judged_refusal};
 
+use crate::Rule;
 use crate::common::by_rank;
-use crate::common::by_rank::Frame;
-use crate::published::response;
-use crate::{Rule, assured};
+use crate::common::tasks::{Chosen, Task};
 use sheet::Table;
 
-// Whether the tasks in columns meet a rule.
-pub fn meets_in_order<'a>(
-    columns: &'a [u16; 32],
-    faults: &'a [u8; 8],
-    frame: Frame,
-    rule: Rule,
-) -> bool
-    requires order { InOrder (ranked columns.now frame faults.now) }
-    requires chosen { ChosenIn (ranked columns.now frame faults.now) }
-    ensures { result ≡ meets rule (ranked columns.now frame faults.now) }
-{
-    match rule {
-        Rule::Published => response::passes_in_order(columns, faults, frame),
-        Rule::Assured => assured::assured_in_order(columns, faults, frame),
+impl Task<'_> {
+    // Whether it has no time within its deadline by a rule.
+    fn misses(&self, rule: Rule) -> bool
+        ensures { result ≡ is_late (get_or self.now.among.tasks.columns.now (24 + self.now.rank) 0) (time_by rule (chosen_in self.now.among) self.now.rank) }
+    {
+        match rule {
+            Rule::Published => self.is_late(),
+            Rule::Assured => self.is_unassured(),
+        }
+    }
+}
+
+impl Chosen<'_> {
+    // Whether the tasks meet a rule: what runs above a task delays it, so that a low one misses the sooner.
+    pub fn meets(&self, rule: Rule) -> bool
+        ensures { result ≡ meets rule (chosen_in self.now) }
+    {
+        for rank in (0..self.tasks.frame.count as usize).rev() {
+            let task = Task { among: *self, rank };
+            if task.misses(rule) {
+                return false;
+            }
+        }
+        true
     }
 }
 
@@ -33,8 +43,7 @@ pub fn meets(table: Table, choice: [u8; 8], rule: Rule) -> bool
     ensures { result ≡ meets rule (tasks_of table table.interval choice) }
 {
     let mut columns = [0u16; 32];
-    by_rank::put(table, &mut columns);
     let mut faults = [0u8; 8];
-    by_rank::put_choice(table, choice, &mut faults);
-    meets_in_order(&columns, &faults, by_rank::frame_of(table), rule)
+    let among = by_rank::chosen(table, choice, &mut columns, &mut faults);
+    among.meets(rule)
 }

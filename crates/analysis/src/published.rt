@@ -1,4 +1,3 @@
 // The published times.
-pub mod interval;
 pub mod response;
 pub mod times;

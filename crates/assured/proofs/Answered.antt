@@ -13,16 +13,15 @@ use Rattle.places.proofs.Filled.{filled_at, length-filled, filled-past}
 use Rattle.sheet.specs.declared.Table.{Table}
 use Rattle.sheet.specs.Rules.{shared_refusal}
 use Rattle.sheet.proofs.Cases.{good-table}
-use Rattle.analysis.specs.declared.Assessment.{Assessment}
+use Rattle.analysis.specs.Told.{Assessment}
 use Rattle.analysis.specs.declared.Entry.{Entry as Whole}
-use Rattle.analysis.specs.declared.Timed.{Timed as WholeTimed}
+use Rattle.analysis.specs.Told.{Timed as WholeTimed}
 use Rattle.analysis.specs.declared.Rule.TheVariants.{Assured}
 use Rattle.analysis.specs.Assured.Time.{assured}
 use Rattle.analysis.specs.Common.Entries.{own_tasks, entry_from, assessed, no_entry as no_whole}
 use Rattle.analysis.specs.ByRule.{meets, rule_refusal, time_by, entry_by, choice_assessment_by, own_assessment_by, place_refusal as rule_place_refusal, timed_by}
 use Rattle.analysis.proofs.Laws.ByRule.{rule-good, own-judged}
-use Rattle.assured.specs.declared.Timed.{Timed}
-use Rattle.assured.specs.declared.Times.{Times}
+use Rattle.assured.specs.Told.{Timed, Times}
 use Rattle.assured.specs.Answers.{assured_refusal, place_refusal, entry_of, no_entry, without_slack, time_answer, times_answer}
 
 -- the table's own rules and 19 are what the assured rule refuses a table for

@@ -34,7 +34,7 @@ use Rattle.replay.specs.Logs.Answers.{replay_answer}
 use Rattle.replay.specs.Logs.Positions.{ticks_of}
 use Rattle.replay.proofs.Demands.{sheet-passed}
 use Rattle.choices.specs.declared.Walk.{Walk}
-use Rattle.choices.specs.declared.Arrival.TheVariants.{Found, End}
+use Rattle.choices.specs.Told.Arrival.{Found, End}
 use Rattle.choices.specs.Order.{before}
 use Rattle.choices.specs.Answers.{entry_bytes}
 use Rattle.choices.proofs.Advancing.{starts}

@@ -12,14 +12,12 @@ use Rattle.analysis.specs.Common.Columns.{priorities_of}
 use Rattle.analysis.specs.Common.Allowed.{all_allowed}
 use Rattle.analysis.specs.Common.Entries.{outcome_of, own_tasks}
 use Rattle.choices.specs.declared.Walk.{Walk}
-use Rattle.choices.specs.declared.Stepped.{Stepped}
-use Rattle.choices.specs.declared.Listing.{Listing}
+use Rattle.choices.specs.Told.{Stepped, Listing}
 use Rattle.choices.specs.Choices.{chosen}
 use Rattle.choices.specs.Order.{all_zero}
 use Rattle.choices.specs.Answers.{step_from, room_refusal, list_from, leaves_from}
 use Rattle.assured.specs.declared.Entry.{Entry}
-use Rattle.assured.specs.declared.Timed.{Timed}
-use Rattle.assured.specs.declared.Times.{Times}
+use Rattle.assured.specs.Told.{Timed, Times}
 
 -- "a choice is assured if every task has one", an assured time: these choices, in their order
 unfoldable pub assured_of : Table → List (List ℕ)

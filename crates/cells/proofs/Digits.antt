@@ -1,20 +1,19 @@
 -- Words that begin with a digit: no setting, and their numbers. Assumes nothing.
-use Prim.Native.Nat.{ℕ, zero, suc, ◌+◌, ◌-◌, ◌*◌, ◌≤◌, ◌<◌, min}
-use mathlib.Core.Path.{◌≡◌, refl, sym, ap, ap₂, ◌∙◌}
-use mathlib.Core.Bool.{Bool, true, false, cond, not, ◌&&◌, ◌||◌}
+use Prim.Native.Nat.{ℕ, zero, suc, ◌+◌, ◌≤◌, ◌<◌, min}
+use mathlib.Core.Path.{◌≡◌, refl, sym, ◌∙◌}
+use mathlib.Core.Bool.{Bool, true, false, cond, not, ◌&&◌}
 use mathlib.Core.Logic.{◌↔◌}
-use mathlib.Core.List.{List, [], ◌∷◌, ◌++◌}
+use mathlib.Core.List.{List, [], ◌∷◌}
 use native.Mathlib.Omega.{arith}
-use borrow.Author.Tests.{ne_eqb, eq-eqb, le-leb, lt-leb, le-ltb, lt-ltb}
-use lib.Dec.{eqb, ltb, leb}
-use lib.ListN.{length, get_or, take, drop, set, replicate}
+use borrow.Author.Tests.{ne_eqb, lt-leb}
+use lib.Dec.{eqb, ltb}
+use lib.ListN.{length, get_or, take, drop}
 use lib.Seq.{get_or-set_other}
 use Rattle.places.proofs.Tells.{told, shown, leb_tells, and-tells}
 use Rattle.cells.specs.declared.Label.{Label}
-use Rattle.cells.specs.declared.Number.{Number}
 use Rattle.cells.specs.Kinds.{is_blank, is_digit, lower, is_gap, opens, closes}
-use Rattle.cells.specs.Numbers.{is_quoted, quotes_refusal, content_of, are_digits, digit_of, no_number, with_digit, value_from, spelled, number_of}
-use Rattle.cells.specs.Names.{same, no_label, unknown_label, with_stage, with_letter, with_byte, label_from, label_of, is_word, is_named, setting_named, setting_of, interval_name, round_name, share_name, letter}
+use Rattle.cells.specs.Numbers.{is_quoted, quotes_refusal, content_of, are_digits, no_number, value_from, spelled, number_of}
+use Rattle.cells.specs.Names.{same, no_label, unknown_label, with_stage, with_letter, with_byte, label_from, label_of, is_word, is_named, setting_named, setting_of, interval_name, round_name, share_name}
 
 -- the ten digits, and no other byte, make a number
 pub digits-exactly : (byte : ℕ) → (is_digit byte ≡ true) ↔ ((48 ≤ byte) × (byte < 48 + 10))

@@ -1,15 +1,15 @@
 -- What `split` finds are the line's cells, in their order. Assumes nothing.
-use Prim.Native.Nat.{ℕ, zero, suc, ◌+◌, ◌-◌, ◌*◌, ◌≤◌, ◌<◌, min}
+use Prim.Native.Nat.{ℕ, zero, suc, ◌+◌, ◌-◌, ◌≤◌, ◌<◌, min}
 use mathlib.Core.Path.{◌≡◌, refl, sym, ap, ap₂, ◌∙◌, subst}
-use mathlib.Core.Bool.{Bool, true, false, cond, not, ◌&&◌, ◌||◌}
+use mathlib.Core.Bool.{Bool, true, false, cond, not, ◌&&◌}
 use mathlib.Core.List.{List, [], ◌∷◌, ◌++◌, append_assoc, append-nil}
 use native.Mathlib.Numerals.{add-one}
 use native.Mathlib.Decide.{dec_lt}
 use native.Mathlib.Omega.{arith}
-use borrow.Author.Tests.{ne_eqb, eq-eqb, eqb-true, eqb-false, ltb-true, ltb-false, not-true}
-use lib.Dec.{eqb, ltb}
-use lib.ListN.{length, get_or, take, drop, set, replicate, length-append, length-drop, length-take, length-set, get_or-append}
-use lib.Seq.{take-add, drop-drop, drop-cons, take_all, take_at, take-append-le, get_or_at, get_or-take, get_or-set_same, get_or-set_other}
+use borrow.Author.Tests.{ne_eqb, eq-eqb, ltb-true, ltb-false, not-true}
+use lib.Dec.{ltb}
+use lib.ListN.{length, get_or, take, drop, set, length-append, length-drop, length-take, length-set, get_or-append}
+use lib.Seq.{take-add, drop-drop, drop-cons, take_all, take_at, get_or_at, get_or-take, get_or-set_same, get_or-set_other}
 use Rattle.places.specs.Places.{joined_below}
 use Rattle.places.proofs.Agree.{joined-agree}
 use Rattle.places.proofs.Tells.{both_true}

@@ -1,11 +1,13 @@
 -- One byte more of each definition that goes over bytes: what a loop's turn shows. Assumes nothing.
-use Prim.Native.Nat.{ℕ, zero, suc, ◌+◌, ◌≤◌, ◌<◌}
-use mathlib.Core.Path.{◌≡◌, refl, sym, ap, ◌∙◌}
+use Rattle.std.specs.Prelude.{fold}
+use Rattle.std.specs.List.{list_all}
+use lib.Pointwise.{pointwise}
+use Prim.Native.Nat.{ℕ, suc, ◌+◌, ◌<◌}
+use mathlib.Core.Path.{◌≡◌, refl, sym, ap}
 use mathlib.Core.Bool.{Bool, true, false, cond, not, ◌&&◌, ◌||◌}
 use mathlib.Core.List.{List, [], ◌∷◌}
 use native.Mathlib.Numerals.{add-one}
 use native.Mathlib.Omega.{arith}
-use borrow.Author.Tests.{ne_eqb, eq-eqb}
 use lib.Dec.{eqb}
 use lib.ListN.{length, get_or, drop}
 use lib.Seq.{drop-cons}
@@ -26,18 +28,6 @@ module _ (line : List ℕ) (at : ℕ) (below : at < length line) where
   unfolding cells_from
   cells-more cells separator span = rw (drop-cons line at 0 below, ← (add-one at)) refl
 
-  pub value-more : (number : Number) → value_from number (drop at line) ≡ value_from (with_digit number (get_or line at 0)) (drop (at + 1) line)
-  unfolding value_from
-  value-more number = rw (drop-cons line at 0 below, add-one) refl
-
-  pub label-more : (label : Label) → label_from label (drop at line) ≡ label_from (with_byte label (get_or line at 0)) (drop (at + 1) line)
-  unfolding label_from
-  label-more label = rw (drop-cons line at 0 below, add-one) refl
-
-  pub spelling-more : (quoted : Bool) (spelling : Spelling) → spelled_from quoted spelling (drop at line) ≡ spelled_from quoted (spelled_after quoted spelling (get_or line at 0)) (drop (at + 1) line)
-  unfolding spelled_from
-  spelling-more quoted spelling = rw (drop-cons line at 0 below, add-one) refl
-
   -- the wanted byte, and any other
   pub outside-found : (wanted : ℕ) (quoted : Bool) → (not quoted && eqb (get_or line at 0) wanted) ≡ true → has_outside wanted quoted (drop at line) ≡ true
   unfolding has_outside
@@ -47,15 +37,6 @@ module _ (line : List ℕ) (at : ℕ) (below : at < length line) where
       → has_outside wanted quoted (drop at line) ≡ has_outside wanted (turned quoted (get_or line at 0)) (drop (at + 1) line)
   unfolding has_outside
   outside-more wanted quoted e = rw (drop-cons line at 0 below, add-one, e) refl
-
-  -- a digit or a point, and any other byte
-  pub digits-end : (points : Bool) → (is_digit (get_or line at 0) || (points && is_point (get_or line at 0))) ≡ false → are_digits points (drop at line) ≡ false
-  unfolding are_digits
-  digits-end points e = rw (drop-cons line at 0 below, e) refl
-
-  pub digits_more : (points : Bool) → (is_digit (get_or line at 0) || (points && is_point (get_or line at 0))) ≡ true → are_digits points (drop at line) ≡ are_digits points (drop (at + 1) line)
-  unfolding are_digits
-  digits_more points e = rw (drop-cons line at 0 below, add-one, e) refl
 
 never : false ≡ true → ⊥
 never e =
@@ -83,24 +64,31 @@ module _ (bytes : List ℕ) (at : ℕ) (below : at < length bytes) (odd : Bool) 
   unfolding paired turned
   pairs-more e = rw (drop-cons bytes at 0 below, add-one) (pair_turn (eqb (get_or bytes at 0) 34) odd (λ (b : Bool). paired b (drop (suc at) bytes)) e)
 
--- lists of different lengths are not the same
-pub same_length : (a b : List ℕ) → (length a ≡ length b → ⊥) → same a b ≡ false
+-- what is read byte by byte is a fold
+pub value_folds : (number : Number) (bytes : List ℕ) → value_from number bytes ≡ fold with_digit number bytes
+unfolding value_from
+value_folds number [] = refl
+value_folds number (byte ∷ bytes) = value_folds (with_digit number byte) bytes
+
+pub label_folds : (label : Label) (bytes : List ℕ) → label_from label bytes ≡ fold with_byte label bytes
+unfolding label_from
+label_folds label [] = refl
+label_folds label (byte ∷ bytes) = label_folds (with_byte label byte) bytes
+
+-- whether all bytes are digits, and whether two lists are the same
+pub digits_all : (points : Bool) (bytes : List ℕ) → are_digits points bytes ≡ list_all (λ byte. is_digit byte || (points && is_point byte)) bytes
+unfolding are_digits
+digits_all points [] = refl
+digits_all points (byte ∷ bytes) = ap (λ rest. (is_digit byte || (points && is_point byte)) && rest) (digits_all points bytes)
+
+pub same_pointwise : (a b : List ℕ) → same a b ≡ pointwise eqb a b
 unfolding same
-same_length [] [] apart = absurd (apart refl)
-same_length [] (y ∷ b) apart = refl
-same_length (x ∷ a) [] apart = refl
-same_length (x ∷ a) (y ∷ b) apart = go (eqb x y) (same_length a b (λ e. apart (ap suc e)))
-  where
-    go : (is : Bool) → same a b ≡ false → (is && same a b) ≡ false
-    go true e = e
-    go false e = refl
+same_pointwise [] [] = refl
+same_pointwise [] (y ∷ b) = refl
+same_pointwise (x ∷ a) [] = refl
+same_pointwise (x ∷ a) (y ∷ b) = ap (λ rest. eqb x y && rest) (same_pointwise a b)
 
--- one byte more of both
-module _ (a b : List ℕ) (at : ℕ) (below : at < length a) (under : at < length b) where
-  pub same_more : get_or a at 0 ≡ get_or b at 0 → same (drop at a) (drop at b) ≡ same (drop (at + 1) a) (drop (at + 1) b)
-  unfolding same
-  same_more e = rw (drop-cons a at 0 below, drop-cons b at 0 under, add-one, eq-eqb (get_or a at 0) (get_or b at 0) e) refl
-
-  pub same_end : (get_or a at 0 ≡ get_or b at 0 → ⊥) → same (drop at a) (drop at b) ≡ false
-  unfolding same
-  same_end apart = rw (drop-cons a at 0 below, drop-cons b at 0 under, ne_eqb (get_or a at 0) (get_or b at 0) apart) refl
+pub spelling_folds : (quoted : Bool) (spelling : Spelling) (bytes : List ℕ) → spelled_from quoted spelling bytes ≡ fold (spelled_after quoted) spelling bytes
+unfolding spelled_from
+spelling_folds quoted spelling [] = refl
+spelling_folds quoted spelling (byte ∷ bytes) = spelling_folds quoted (spelled_after quoted spelling byte) bytes

@@ -1,16 +1,15 @@
 -- Lines of plain words with separators between them: their cells are the words. Assumes nothing.
-use Prim.Native.Nat.{ℕ, zero, suc, ◌+◌, ◌≤◌, ◌<◌}
-use mathlib.Core.Path.{◌≡◌, refl, sym, ap, ap₂, ◌∙◌}
-use mathlib.Core.Bool.{Bool, true, false, cond, not, ◌&&◌, ◌||◌}
+use Prim.Native.Nat.{ℕ, zero, suc, ◌+◌}
+use mathlib.Core.Path.{◌≡◌, refl, ap, ◌∙◌}
+use mathlib.Core.Bool.{Bool, true, false, not, ◌&&◌, ◌||◌}
 use mathlib.Core.List.{List, [], ◌∷◌, ◌++◌}
-use native.Mathlib.Omega.{arith}
 use borrow.Author.Tests.{eq-eqb}
 use lib.Dec.{eqb}
-use lib.ListN.{length, get_or, replicate}
+use lib.ListN.{replicate}
 use Rattle.cells.specs.declared.Span.{Span}
 use Rattle.cells.specs.declared.Cells.{Cells}
-use Rattle.cells.specs.Kinds.{is_blank, separates, runs, blanks}
-use Rattle.cells.specs.Cells.{empty_at, turned, ends_cell, span_after, cells_after, cells_from, cells_of, has_outside, separator_of}
+use Rattle.cells.specs.Kinds.{is_blank, separates, runs}
+use Rattle.cells.specs.Cells.{turned, ends_cell, span_after, cells_after, cells_from, has_outside}
 use Rattle.cells.specs.Raw.{with_first, raw_cells, is_none, after_blanks, before_blanks, trimmed, trimmed_all, kept, cells_in}
 use Rattle.cells.proofs.Cut.{Some, some, raw-some, kept-one, kept_more}
 

@@ -7,7 +7,7 @@ ghost use Rattle.cells.specs.Kinds.{is_blank, is_loose, separates, runs, is_digi
 pub fn byte_at(bytes: &[u8], place: usize) -> u8
     ensures { result ≡ get_or bytes.now place 0 }
 {
-    if place < bytes.len() { bytes[place] } else { 0 }
+    bytes.get(place).copied().unwrap_or(0)
 }
 
 // Whether a byte is a blank.
@@ -53,14 +53,14 @@ pub fn runs(separator: u8) -> bool
 pub fn turned(quoted: bool, byte: u8) -> bool
     ensures { result ≡ turned quoted byte }
 {
-    if byte == b'"' { !quoted } else { quoted }
+    quoted ^ (byte == b'"')
 }
 
 // Whether a byte is a digit.
 pub fn is_digit(byte: u8) -> bool
     ensures { result ≡ is_digit byte }
 {
-    (b'0' <= byte) & (byte <= b'9')
+    byte.is_ascii_digit()
 }
 
 // Whether a byte is a decimal point or a decimal comma.
@@ -74,20 +74,14 @@ pub fn is_point(byte: u8) -> bool
 pub fn is_control(byte: u8) -> bool
     ensures { result ≡ is_control byte }
 {
-    (byte < b' ') | (byte == 127)
+    byte.is_ascii_control()
 }
 
 // A letter as a small one.
 pub fn lower(byte: u8) -> u8
     ensures { result ≡ lower byte }
 {
-    if byte < b'A' {
-        return byte;
-    }
-    if b'Z' < byte {
-        return byte;
-    }
-    byte + 32
+    byte.to_ascii_lowercase()
 }
 
 // Whether a byte plays no part in a name.

@@ -4,23 +4,6 @@ ghost use Rattle.cells.specs.Names.{same, no_label, unknown_label, with_stage, w
 
 use crate::{Label, kinds, numbers};
 
-// Whether two parts hold the same bytes.
-fn same(a: &[u8], b: &[u8]) -> bool
-    ensures { result ≡ same a.now b.now }
-{
-    if a.len() != b.len() {
-        return false;
-    }
-    let mut at: usize = 0;
-    while at < a.len() {
-        if a[at] != b[at] {
-            return false;
-        }
-        at += 1;
-    }
-    true
-}
-
 // Nothing read yet.
 fn no_label() -> Label
     ensures { result ≡ no_label }
@@ -36,11 +19,9 @@ fn no_label() -> Label
 fn unknown_label(label: Label) -> Label
     ensures { result ≡ unknown_label label }
 {
-    let bytes = label.bytes;
     Label {
-        stage: label.stage,
         length: 17,
-        bytes,
+        ..label
     }
 }
 
@@ -48,12 +29,7 @@ fn unknown_label(label: Label) -> Label
 fn with_stage(label: Label, stage: u8) -> Label
     ensures { result ≡ with_stage label stage }
 {
-    let bytes = label.bytes;
-    Label {
-        stage,
-        length: label.length,
-        bytes,
-    }
+    Label { stage, ..label }
 }
 
 // One letter more.
@@ -64,13 +40,10 @@ fn with_letter(label: Label, byte: u8) -> Label
     if 16 <= length {
         return unknown_label(label);
     }
-    let mut bytes = label.bytes;
-    bytes[length as usize] = kinds::lower(byte);
-    Label {
-        stage: label.stage,
-        length: length + 1,
-        bytes,
-    }
+    let mut longer = label;
+    longer.bytes[length as usize] = kinds::lower(byte);
+    longer.length = length + 1;
+    longer
 }
 
 // A byte of a column's name.
@@ -99,31 +72,19 @@ fn with_byte(label: Label, byte: u8) -> Label
 fn label_from(bytes: &[u8]) -> Label
     ensures { result ≡ label_from no_label bytes.now }
 {
-    let mut label = no_label();
-    let mut at: usize = 0;
-    while at < bytes.len() {
-        label = with_byte(label, bytes[at]);
-        at += 1;
-    }
-    label
+    bytes
+        .iter()
+        .fold(no_label(), |label, byte| with_byte(label, *byte))
 }
 
 // The name of a cell in small letters.
 pub fn label_of(cell: &[u8]) -> Label
     ensures { result ≡ label_of cell.now }
 {
-    if numbers::quotes_refusal(cell) != 0 {
+    if !numbers::is_well_quoted(cell) {
         return no_label();
     }
     label_from(numbers::content_of(cell))
-}
-
-// Whether so many letters are a word.
-fn is_word(bytes: [u8; 16], length: u8, word: &[u8]) -> bool
-    ensures { result ≡ is_word bytes length word.now }
-{
-    let count = numbers::least(length as usize, 16);
-    same(&bytes[..count], word)
 }
 
 // Whether a name is a word.
@@ -133,8 +94,8 @@ fn is_named(label: Label, word: &[u8]) -> bool
     if label.stage == 1 {
         return false;
     }
-    let bytes = label.bytes;
-    is_word(bytes, label.length, word)
+    let letters = (label.length as usize).min(16);
+    &label.bytes[..letters] == word
 }
 
 // The column of a name.

@@ -73,12 +73,9 @@ pub fn split(line: &[u8], separator: u8) -> Cells
 {
     let mut cells = spans::no_cells();
     let mut span = spans::empty_at(0);
-    let mut at: usize = 0;
-    while at < line.len() {
-        let byte = line[at];
+    for (at, &byte) in line.iter().enumerate() {
         cells = spans::cells_after(cells, separator, span, byte);
         span = spans::span_after(separator, span, byte, at);
-        at += 1;
     }
     spans::cells_at_end(cells, span)
 }
@@ -87,8 +84,8 @@ pub fn split(line: &[u8], separator: u8) -> Cells
 pub fn part(line: &[u8], start: usize, end: usize) -> &[u8]
     ensures { result.now ≡ part_of line.now start end }
 {
-    let stop = numbers::least(end, line.len());
-    let first = numbers::least(start, stop);
+    let stop = end.min(line.len());
+    let first = start.min(stop);
     &line[first..stop]
 }
 
@@ -112,7 +109,7 @@ pub fn separator_of(line: &[u8]) -> u8
 pub fn number_of(cell: &[u8]) -> Number
     ensures { result ≡ number_of cell.now }
 {
-    if numbers::quotes_refusal(cell) != 0 {
+    if !numbers::is_well_quoted(cell) {
         return numbers::not_number(42);
     }
     numbers::spelled(numbers::content_of(cell))
@@ -146,9 +143,9 @@ pub fn no_name() -> Name
 pub fn name_of(cell: &[u8]) -> Named
     ensures { result ≡ name_of cell.now }
 {
-    if numbers::quotes_refusal(cell) != 0 {
-        return naming::named_by(naming::misspelt(42));
+    if !numbers::is_well_quoted(cell) {
+        return Named::from(naming::misspelt(42));
     }
     let quoted = numbers::is_quoted(cell);
-    naming::named_by(naming::spelled(quoted, numbers::content_of(cell)))
+    Named::from(naming::spelled(quoted, numbers::content_of(cell)))
 }

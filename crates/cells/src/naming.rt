@@ -19,20 +19,17 @@ pub fn misspelt(refusal: u8) -> Spelling
 fn spelled_with(spelling: Spelling, odd: bool, byte: u8) -> Spelling
     ensures { result ≡ spelled_with spelling odd byte }
 {
-    let name = spelling.name;
+    let mut name = spelling.name;
     let length = name.length;
     if 32 <= length {
         return misspelt(41);
     }
-    let mut bytes = name.bytes;
-    bytes[length as usize] = byte;
+    name.bytes[length as usize] = byte;
+    name.length = length + 1;
     Spelling {
         refusal: 0,
         odd,
-        name: Name {
-            length: length + 1,
-            bytes,
-        },
+        name,
     }
 }
 
@@ -46,11 +43,10 @@ fn spelled_quote(quoted: bool, spelling: Spelling) -> Spelling
     if !spelling.odd {
         return spelled_with(spelling, true, b'"');
     }
-    let name = spelling.name;
     Spelling {
         refusal: 0,
         odd: false,
-        name,
+        ..spelling
     }
 }
 
@@ -74,22 +70,20 @@ fn spelled_after(quoted: bool, spelling: Spelling, byte: u8) -> Spelling
 pub fn spelled(quoted: bool, bytes: &[u8]) -> Spelling
     ensures { result ≡ spelled_from quoted no_spelling bytes.now }
 {
-    let mut spelling = misspelt(0);
-    let mut at: usize = 0;
-    while at < bytes.len() {
-        spelling = spelled_after(quoted, spelling, bytes[at]);
-        at += 1;
-    }
-    spelling
+    bytes.iter().fold(
+        misspelt(0),
+        |spelling, byte| spelled_after(quoted, spelling, *byte),
+    )
 }
 
 // The name that was read, or why there is none.
-pub fn named_by(spelling: Spelling) -> Named
-    ensures { result ≡ named_by spelling }
-{
-    let name = spelling.name;
-    Named {
-        refusal: spelling.refusal,
-        name,
+impl From<Spelling> for Named {
+    fn from(spelling: Spelling) -> Named
+        ensures { result ≡ named_by spelling }
+    {
+        Named {
+            refusal: spelling.refusal,
+            name: spelling.name,
+        }
     }
 }

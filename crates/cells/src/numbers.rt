@@ -1,30 +1,19 @@
 // A cell as a number, and what stands in a cell that is quoted.
-ghost use Rattle.std.specs.Prelude.{◌≡◌, true, false, ◌+◌, ◌*◌, ◌≤◌, min, ltb, length};
+ghost use Rattle.std.specs.Prelude.{◌≡◌, ◌≤◌, ◌==◌, false, length};
 ghost use Rattle.cells.specs.Numbers.{paired, is_quoted, is_closed, between, quotes_refusal, content_of, are_digits, digit_of, no_number, not_number, with_digit, value_from, why_not, spelled};
 
 use crate::{Number, kinds};
-
-// The lesser of two places.
-pub fn least(a: usize, b: usize) -> usize
-    ensures value { result ≡ min a b }
-    ensures under { result ≤ b }
-{
-    if a < b { a } else { b }
-}
 
 // Whether each quote stands there twice.
 fn is_paired(bytes: &[u8]) -> bool
     ensures { result ≡ paired false bytes.now }
 {
     let mut odd = false;
-    let mut at: usize = 0;
-    while at < bytes.len() {
-        let byte = bytes[at];
+    for &byte in bytes {
         if odd & (byte != b'"') {
             return false;
         }
         odd = kinds::turned(odd, byte);
-        at += 1;
     }
     !odd
 }
@@ -55,15 +44,11 @@ fn is_closed(cell: &[u8]) -> bool
     (kinds::byte_at(cell, cell.len() - 1) == b'"') & is_paired(between(cell))
 }
 
-// 42 where a cell's quotes are wrong, else 0.
-pub fn quotes_refusal(cell: &[u8]) -> u8
-    ensures { result ≡ quotes_refusal cell.now }
+// Whether a cell's quotes are right: it has none, or they are closed.
+pub fn is_well_quoted(cell: &[u8]) -> bool
+    ensures { result ≡ (quotes_refusal cell.now == 0) }
 {
-    if is_quoted(cell) & !is_closed(cell) {
-        42
-    } else {
-        0
-    }
+    !is_quoted(cell) | is_closed(cell)
 }
 
 // What a cell says.
@@ -83,46 +68,18 @@ pub fn content_of(cell: &[u8]) -> &[u8]
 fn are_digits(bytes: &[u8], points: bool) -> bool
     ensures { result ≡ are_digits points bytes.now }
 {
-    let mut at: usize = 0;
-    while at < bytes.len() {
-        let byte = bytes[at];
-        if !(kinds::is_digit(byte) | (points & kinds::is_point(byte))) {
-            return false;
-        }
-        at += 1;
-    }
-    true
+    bytes.iter().all(|byte| kinds::is_digit(*byte) | (points & kinds::is_point(*byte)))
 }
 
 // The value of a digit, 0 of any other byte.
 fn digit_of(byte: u8) -> u64
-    ensures value { result ≡ digit_of byte }
-    ensures small { result ≤ 9 }
+    ensures { result ≡ digit_of byte }
 {
-    if byte < b'0' {
-        return 0;
+    if kinds::is_digit(byte) {
+        u64::from(byte - b'0')
+    } else {
+        0
     }
-    if b'9' < byte {
-        return 0;
-    }
-    byte as u64 - 48
-}
-
-// Whether 64 bits do not hold a number with one digit more.
-fn is_over(value: u64, digit: u64) -> bool
-    requires { digit ≤ 9 }
-    ensures { result ≡ ltb 18446744073709551615 (value * 10 + digit) }
-{
-    if value < 1844674407370955161 {
-        return false;
-    }
-    if 1844674407370955161 < value {
-        return true;
-    }
-    if digit <= 5 {
-        return false;
-    }
-    true
 }
 
 // No number, and why.
@@ -139,13 +96,13 @@ fn with_digit(number: Number, byte: u8) -> Number
     if number.refusal != 0 {
         return number;
     }
-    let digit = digit_of(byte);
-    if is_over(number.value, digit) {
-        return not_number(31);
-    }
-    Number {
-        refusal: 0,
-        value: number.value * 10 + digit,
+    let longer = number
+        .value
+        .checked_mul(10)
+        .and_then(|tens| tens.checked_add(digit_of(byte)));
+    match longer {
+        Some(value) => Number { refusal: 0, value },
+        None => not_number(31),
     }
 }
 
@@ -153,20 +110,16 @@ fn with_digit(number: Number, byte: u8) -> Number
 fn value_of(digits: &[u8]) -> Number
     ensures { result ≡ value_from no_number digits.now }
 {
-    let mut number = not_number(0);
-    let mut at: usize = 0;
-    while at < digits.len() {
-        number = with_digit(number, digits[at]);
-        at += 1;
-    }
-    number
+    digits
+        .iter()
+        .fold(not_number(0), |number, digit| with_digit(number, *digit))
 }
 
 // Why a cell is no number.
 fn why_not(cell: &[u8]) -> u8
     ensures { result ≡ why_not cell.now }
 {
-    if cell.len() == 0 {
+    if cell.is_empty() {
         return 35;
     }
     let first = kinds::byte_at(cell, 0);
@@ -183,7 +136,7 @@ fn why_not(cell: &[u8]) -> u8
 pub fn spelled(cell: &[u8]) -> Number
     ensures { result ≡ spelled cell.now }
 {
-    if (cell.len() != 0) & are_digits(cell, false) {
+    if !cell.is_empty() & are_digits(cell, false) {
         return value_of(cell);
     }
     not_number(why_not(cell))

@@ -43,9 +43,9 @@ fn grown(span: Span, byte: u8, at: usize) -> Span
         };
     }
     Span {
-        start: span.start,
         end: at + 1,
         quoted,
+        ..span
     }
 }
 
@@ -93,15 +93,11 @@ fn with_cell(cells: Cells, span: Span) -> Cells
     if 8 <= count {
         return cells;
     }
-    let mut starts = cells.starts;
-    let mut ends = cells.ends;
-    starts[count] = span.start;
-    ends[count] = span.end;
-    Cells {
-        count: count + 1,
-        starts,
-        ends,
-    }
+    let mut more = cells;
+    more.starts[count] = span.start;
+    more.ends[count] = span.end;
+    more.count = count + 1;
+    more
 }
 
 // The cells after a byte.
@@ -129,14 +125,11 @@ pub fn has_outside(line: &[u8], wanted: u8) -> bool
     ensures { result ≡ has_outside wanted false line.now }
 {
     let mut quoted = false;
-    let mut at: usize = 0;
-    while at < line.len() {
-        let byte = line[at];
+    for &byte in line {
         if !quoted & (byte == wanted) {
             return true;
         }
         quoted = kinds::turned(quoted, byte);
-        at += 1;
     }
     false
 }

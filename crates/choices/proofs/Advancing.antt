@@ -1,13 +1,14 @@
 -- From one choice to the next for which a test holds: what stepping through the choices keeps, and what a start is refused for. Assumes nothing.
 use Prim.Native.Nat.{ℕ, ◌≤◌, ◌<◌}
 use mathlib.Core.Path.{◌≡◌, refl, sym, ap, ◌∙◌, subst}
-use mathlib.Core.Bool.{Bool, true, false, cond, true≢false}
+use mathlib.Core.Bool.{Bool, true, false, cond}
 use mathlib.Core.List.{List, [], ◌∷◌}
 use mathlib.Core.Logic.{◌↔◌}
 use native.Mathlib.Nat.{suc-ne-zero}
 use native.Mathlib.Decide.{ℕ_discrete}
 use native.Mathlib.Omega.{arith}
 use lib.ListN.{length, get_or, drop, replicate}
+use Rattle.std.specs.Prelude.{Some, None, slice_get}
 use Rattle.places.specs.Refusals.{or_else}
 use Rattle.places.proofs.Tells.{tests}
 use Rattle.places.proofs.Filled.{alike_at, filled_within}
@@ -29,7 +30,7 @@ use Rattle.analysis.proofs.Laws.ByRule.{rule-good}
 use Rattle.choices.specs.Choices.{choices_of, sift, chosen}
 use Rattle.choices.specs.Order.{after_of}
 use Rattle.choices.specs.Answers.{walk_refusal, start_refusal}
-use Rattle.choices.specs.Stepping.{next_of, Levels, Arrived}
+use Rattle.choices.specs.Stepping.{next_of, Levels}
 use Rattle.choices.proofs.Sifted.{sift-keeps, sift-drops, sift-sift-commute}
 use Rattle.choices.proofs.Onward.{starts_in, onward, after_next, next-allowed}
 
@@ -113,12 +114,23 @@ module _ (ps : List ℕ) (test : List ℕ → Bool) (some : 1 ≤ get_or ps 0 0)
         sift-sift-commute choice test (choices_of ps) ∙ ap (sift test) onto ∙ sift-drops test later _ not-it ∙ sym (sift-sift-commute later test (choices_of ps))
 
 -- the first of a list that is found
-pub came-to : {l rest : List (List ℕ)} {c : List ℕ} → l ≡ c ∷ rest → Arrived l true c
-came-to {c = c} e = record { there = λ z. e ∙ ap (λ (l : List (List ℕ)). c ∷ drop 1 l) (sym e); ended = λ z. absurd (true≢false z) }
+pub came-to : {l rest : List (List ℕ)} {c : List ℕ} → l ≡ c ∷ rest → Some c ≡ slice_get l 0
+came-to e = ap (λ (l : List (List ℕ)). slice_get l 0) (sym e)
 
 -- none of an empty one
-pub came-to-end : {l : List (List ℕ)} {c : List ℕ} → l ≡ [] → Arrived l false c
-came-to-end e = record { there = λ z. absurd (true≢false (sym z)); ended = λ z. e }
+pub came-to-end : {l : List (List ℕ)} → l ≡ [] → None ≡ slice_get l 0
+came-to-end e = ap (λ (l : List (List ℕ)). slice_get l 0) (sym e)
+
+-- a list whose first choice is none is empty, and any other starts with it
+pub none_came : (l : List (List ℕ)) → None ≡ slice_get l 0 → l ≡ []
+none_came [] e = refl
+none_came (c ∷ l) e = cc
+
+pub one_came : (l : List (List ℕ)) (c : List ℕ) → Some c ≡ slice_get l 0 → l ≡ c ∷ drop 1 l
+one_came [] c e = cc
+one_came (d ∷ l) c e =
+    let same : d ≡ c = cc in
+    ap (λ (x : List ℕ). x ∷ l) same
 
 -- The same of the choices of a table that a rule does not refuse, which meet it or not
 module _ (rule : Rule) (t : Table) (fine : rule_refusal rule t ≡ 0) where

@@ -1,6 +1,6 @@
 -- The demands on the walk and the list in the request's words, about the definitions.
 -- What stands beside a refusal is in Refused.antt. Assumes nothing.
-use Prim.Native.Nat.{ℕ, zero, suc, ◌-◌, ◌*◌, ◌≤◌, ◌<◌}
+use Prim.Native.Nat.{ℕ, zero, suc, ◌*◌, ◌≤◌, ◌<◌}
 use mathlib.Core.Path.{◌≡◌, refl, sym, ap, ◌∙◌, subst}
 use mathlib.Core.Bool.{Bool, true, false, cond, ◌||◌, or-true, true≢false}
 use mathlib.Core.List.Memᴰ.{cases_cons}
@@ -30,8 +30,8 @@ use Rattle.analysis.specs.Common.Allowed.{all_allowed}
 use Rattle.analysis.proofs.Laws.Common.Choice.{Allowed, allowed-exactly, own-allowed}
 use Rattle.analysis.proofs.Laws.Published.Lowest.{response-lowest, lowest-late-same, lowest-tested}
 use Rattle.choices.specs.declared.Walk.{Walk}
-use Rattle.choices.specs.declared.Arrival.TheVariants.{Found, End}
-use Rattle.choices.specs.declared.Stepped.{Stepped}
+use Rattle.choices.specs.Told.Arrival.{Found, End}
+use Rattle.choices.specs.Told.{Stepped}
 use Rattle.choices.specs.Choices.{choices_of, chosen, passing_of}
 use Rattle.choices.specs.Order.{before, all_zero, after_of}
 use Rattle.choices.specs.Answers.{start_walk, walk_refusal, arrive_at, step_from, step_answer, entry_bytes, leaves_from, list_refusal, list_answer, list_leaves}

@@ -1,14 +1,12 @@
 -- Going through the list of the choices for which a test holds one by one: what comes after each, and that each can be gone on from. Assumes nothing.
-use Prim.Native.Nat.{ℕ, suc, ◌+◌, ◌*◌, ◌≤◌, ◌<◌}
+use Prim.Native.Nat.{ℕ, ◌*◌, ◌≤◌, ◌<◌}
 use mathlib.Core.Path.{◌≡◌, refl, sym, ap, ap₂, ◌∙◌, subst}
 use mathlib.Core.Bool.{Bool, true, false, cond, ◌||◌, or-true}
 use mathlib.Core.List.Memᴰ.{head as here}
 use mathlib.Core.List.{List, [], ◌∷◌, Memᴰ as In}
-use native.Mathlib.Numerals.{add-one}
 use native.Mathlib.Omega.{arith}
 use borrow.Author.Tests.{lt-ltb, le-ltb}
-use lib.ListN.{length, get_or, drop, replicate, length-drop}
-use lib.Seq.{drop-cons}
+use lib.ListN.{length, get_or, replicate}
 use Rattle.places.proofs.Refusals.{first_of, next-of}
 use Rattle.sheet.specs.declared.Table.{Table}
 use Rattle.sheet.specs.Rules.{table_refusal}
@@ -60,15 +58,6 @@ module _ (ps : List ℕ) (list : List (List ℕ)) where
     pub after : after_of c list ≡ rest
     pub narrow : IsSmall c
 
-  -- a turn of going through it: the choice found after the first n is the one at place n
-  pub record Turn (n : ℕ) (c : List ℕ) : Type 0 where
-    pub below : n < length list
-    pub same : c ≡ get_or list n []
-    pub after : after_of c list ≡ drop (n + 1) list
-    pub eight : length c ≡ 8
-    pub going_on : starts_in ps c ≡ true
-    pub narrow : IsSmall c
-
 module _ (ps : List ℕ) (test : List ℕ → Bool) where
   -- the choices of some priorities for which a test holds
   abbrev listed : List (List ℕ)
@@ -101,16 +90,6 @@ module _ (ps : List ℕ) (test : List ℕ → Bool) where
           after = after_first w c rest (sift-ascending test (choices-ascending ps)) e;
           narrow = (listed_small member).1;
         }
-
-    pub turn-sifted : (w c : List ℕ) (rest : List (List ℕ)) (n : ℕ) → after_of w listed ≡ drop n listed → after_of w listed ≡ c ∷ rest → Turn ps listed n c
-    turn-sifted w c rest n from found =
-        let next = next-sifted w c rest found in
-        let some : length (drop n listed) ≡ suc (length rest) = ap length (sym from ∙ found) in
-        let below : n < length listed = omega (arith, length-drop n listed) in
-        let cut = drop-cons listed n [] below in
-        let head : c ≡ get_or listed n [] = cc in
-        let tail : rest ≡ drop (suc n) listed = cc in
-        record { below = below; same = head; after = next.after ∙ tail ∙ ap (λ (k : ℕ). drop k listed) (sym (add-one n)); eight = next.eight; going_on = next.going_on; narrow = next.narrow }
 
 -- The same of the choices of a table
 pub passing-ascending : (test : Tasks → Bool) (t : Table) → Ascending (chosen test t)

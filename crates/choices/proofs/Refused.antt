@@ -16,7 +16,7 @@ use Rattle.sheet.proofs.Order.{table-in-order}
 use Rattle.sheet.proofs.Refused.{given-if}
 use Rattle.analysis.specs.Published.Response.{passes}
 use Rattle.choices.specs.declared.Walk.{Walk}
-use Rattle.choices.specs.declared.Arrival.TheVariants.{Refused}
+use Rattle.choices.specs.Told.Arrival.{Refused}
 use Rattle.choices.specs.Choices.{passing_of}
 use Rattle.choices.specs.Answers.{start_walk, walk_refusal, step_from, step_answer, entry_bytes, bytes_of, room_refusal, list_from, leaves_from, list_refusal, list_answer, list_leaves}
 use Rattle.choices.specs.Stepping.{IsSmall}

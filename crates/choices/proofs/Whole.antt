@@ -1,36 +1,13 @@
 -- Tests and carries over whole choices, place by place, as loops go through them. Assumes nothing.
 use Prim.Native.Nat.{ℕ, zero, suc, ◌+◌, ◌≤◌, ◌<◌}
-use mathlib.Core.Path.{◌≡◌, refl, sym, ap, ap₂, ◌∙◌}
-use mathlib.Core.Bool.{true, false, cond, ◌&&◌}
-use mathlib.Core.List.{List, [], ◌∷◌, ◌++◌, map}
+use mathlib.Core.Path.{◌≡◌, ap, ap₂, ◌∙◌}
+use mathlib.Core.Bool.{true, false, cond}
+use mathlib.Core.List.{List, [], ◌∷◌, ◌++◌}
 use native.Mathlib.Nat.{not-suc-le-zero, le_of_suc-le-suc}
-use native.Mathlib.Omega.{arith}
-use lib.Dec.{eqb, ltb}
-use lib.ListN.{length, get_or, take, drop, replicate}
-use lib.Seq.{take_all, ext_get_or}
-use Rattle.places.specs.Places.{filled_below}
-use Rattle.places.proofs.Filled.{length-filled, filled_at}
-use Rattle.sheet.proofs.Spelled.{spelled-take}
+use lib.Dec.{ltb}
+use lib.ListN.{length, get_or, take, drop}
 use Rattle.analysis.proofs.Laws.Common.Choice.{rest_at}
-use Rattle.choices.specs.Order.{all_zero}
 use Rattle.choices.specs.Stepping.{first_for, Carried, carried}
-
-pub zero-at : (l : List ℕ) (k : ℕ) → k < length l → all_zero (drop k l) ≡ (eqb (get_or l k 0) 0 && all_zero (drop (k + 1) l))
-unfolding all_zero
-zero-at l k h = ap all_zero (rest_at l k h)
-
--- a room that is filled whole is what it is filled with, whatever stood in it
-filled-whole : (value : ℕ → ℕ) (n : ℕ) (room other : List ℕ) → length room ≡ n → length other ≡ n → filled_below value n room ≡ filled_below value n other
-filled-whole value n room other e f =
-    ext_get_or 0 _ _ (length-filled value n room ∙ e ∙ sym f ∙ sym (length-filled value n other))
-    (λ k low.
-    let below : k < n = omega (arith, length-filled value n room) in
-    filled_at value n room 0 (omega arith) k below ∙ sym (filled_at value n other 0 (omega arith) k below))
-
--- eight places filled from a list of eight are the list's images
-pub filled-map : (f : ℕ → ℕ) (l room : List ℕ) → length l ≡ 8 → length room ≡ 8 → filled_below (λ k. f (get_or l k 0)) 8 room ≡ map f l
-unfolding filled_below
-filled-map f l room e eight = filled-whole (λ k. f (get_or l k 0)) 8 room (replicate 8 0) eight refl ∙ ap (map f) (spelled-take 8 l 0 (omega arith) ∙ take_all 8 l (omega arith))
 
 -- a carry at a place: where none rose after it, the entry there rises, or goes back to its first
 pub carried-at : (ps qs : List ℕ) (k : ℕ) → k < length ps → k < length qs → (carried (drop (k + 1) ps) (drop (k + 1) qs)).rose ≡ false

@@ -9,9 +9,8 @@ use Rattle.analysis.specs.Common.Columns.{priorities_of}
 use Rattle.analysis.specs.Common.Allowed.{all_allowed}
 use Rattle.analysis.specs.ByRule.{meets, rule_refusal}
 use Rattle.choices.specs.declared.Walk.{Walk}
-use Rattle.choices.specs.declared.Arrival.TheVariants.{Found, End, Refused}
-use Rattle.choices.specs.declared.Stepped.{Stepped}
-use Rattle.choices.specs.declared.Listing.{Listing}
+use Rattle.choices.specs.Told.{Stepped, Listing}
+use Rattle.choices.specs.Told.Arrival.{Found, End, Refused}
 use Rattle.choices.specs.Choices.{chosen, passing_of}
 use Rattle.choices.specs.Order.{all_zero, after_of}
 

@@ -1,11 +1,13 @@
 -- What the code steps with: the choice right after another, the choices that stay within bounds, and what a step through a list comes to. An inner device, tied to the lists by laws; no public promise cites it.
-use Rattle.std.specs.Prelude.{ℕ, zero, suc, ◌*◌, ◌<◌, ◌≤◌, ◌≡◌, Bool, true, false, cond, List, [], ◌∷◌, ◌++◌, map, eqb, ltb, length, get_or, drop}
+use Rattle.std.specs.Prelude.{ℕ, zero, suc, ◌*◌, ◌<◌, ◌≤◌, ◌≡◌, Bool, true, false, cond, List, [], ◌∷◌, ◌++◌, map, eqb, ltb, length, get_or, drop, Result}
+use Rattle.places.specs.declared.refusal.Refusal.{Refusal}
+use Rattle.places.specs.Answered.{answered}
 use Rattle.analysis.specs.declared.Bounds.{Bounds}
 use Rattle.analysis.specs.declared.Rule.{Rule}
 use Rattle.analysis.specs.Bounds.Within.{within_answer}
+use Rattle.analysis.specs.Bounds.Lent.{bounds_lent}
 use Rattle.choices.specs.Choices.{choices_of, sift}
 use Rattle.choices.specs.Order.{all_zero}
-use Rattle.choices.specs.declared.Listing.{Listing}
 use Rattle.choices.specs.Answers.{bytes_of, room_refusal, list_from, leaves_from}
 
 -- n!, which is how many choices n records have
@@ -35,7 +37,7 @@ next_of ps c = cond (all_zero c) (record { rose = true; entries = map first_for 
 
 -- the choices of the priorities that bounds have which stay within these under a rule
 unfoldable pub within_of : Rule → Bounds → List (List ℕ)
-within_of rule b = sift (λ choice. (within_answer rule b choice).yes) (choices_of b.priorities)
+within_of rule b = sift (λ choice. (within_answer rule (bounds_lent b) choice).yes) (choices_of b.priorities)
 
 -- priorities as a table has them, in eight entries: there is a first, and none is above 8
 pub record Levels (priorities : List ℕ) : Type 0 where
@@ -43,19 +45,14 @@ pub record Levels (priorities : List ℕ) : Type 0 where
   pub first : 1 ≤ get_or priorities 0 0
   pub few : (place : ℕ) → get_or priorities place 0 ≤ 8
 
--- what a step through a list comes to: its first choice where it says that there is one, and else the list is empty
-pub record Arrived (list : List (List ℕ)) (is_there : Bool) (choice : List ℕ) : Type 0 where
-  pub there : is_there ≡ true → list ≡ choice ∷ drop 1 list
-  pub ended : is_there ≡ false → list ≡ []
-
 -- a list put at the start of an output: how many choices it has, and their bytes before the output's own
 pub record Filled (list : List (List ℕ)) (out : List ℕ) (entries : ℕ) (left : List ℕ) : Type 0 where
   pub number : entries ≡ length list
   pub content : left ≡ bytes_of list ++ drop (4 * length list) out
 
 -- a list put at the start of an output where it has room there, as no refusal comes first
-pub record Listed (list : List (List ℕ)) (out : List ℕ) (listing : Listing) (left : List ℕ) : Type 0 where
-  pub answer : listing ≡ list_from (room_refusal 0 list out) list
+pub record Listed (list : List (List ℕ)) (out : List ℕ) (told : Result ℕ Refusal) (left : List ℕ) : Type 0 where
+  pub answer : told ≡ answered (room_refusal 0 list out) (list_from (room_refusal 0 list out) list).entries
   pub content : left ≡ leaves_from (room_refusal 0 list out) list out
 
 -- each entry is below 16, so that it has room in four bits

@@ -1,12 +1,11 @@
 // The whole list: whether it fits its room, which is found without walking past that room, and then its bytes.
 ghost use Rattle.std.specs.Prelude.{◌≡◌, ◌+◌, ◌*◌, ◌≤◌, leb, length};
 ghost use Rattle.std.proofs.lemmas.List.Edits.{sets};
-ghost use Rattle.analysis.specs.Bounds.Within.{bounds_in};
-ghost use Rattle.choices.specs.Answers.{entry_bytes};
-ghost use Rattle.choices.specs.Stepping.{factorial, IsSmall, within_of, Levels, Filled, Listed};
+ghost use Rattle.choices.specs.Answers.{start_walk, entry_bytes};
+ghost use Rattle.choices.specs.Stepping.{factorial, IsSmall, within_of, Filled, Listed};
 
-use crate::{Listing, odometer};
-use analysis::Rule;
+use crate::within::Within;
+use places::refusal::Refusal;
 
 // How many choices so many records have: no list is longer.
 fn most(count: u8) -> usize
@@ -15,40 +14,18 @@ fn most(count: u8) -> usize
 {
     let all = count as usize;
     let mut choices: usize = 1;
-    let mut records: usize = 0;
-    while records < all {
-        records += 1;
-        choices = choices * records;
+    for records in 0..all {
+        choices = choices * (records + 1);
     }
     choices
 }
 
 // Whether there are no more choices within bounds than the room has entries.
-fn fits<'a>(
-    count: u8,
-    priorities: &'a [u8; 8],
-    backups: &'a [u16; 8],
-    limits: &'a [u32; 72],
-    room: usize,
-    rule: Rule,
-) -> bool
-    requires few { count ≤ 8 }
-    requires levels { Levels priorities.now }
-    requires most { length (within_of rule (bounds_in 0 count priorities.now backups.now limits.now)) ≤ factorial count }
-    ensures { result ≡ leb (length (within_of rule (bounds_in 0 count priorities.now backups.now limits.now))) room }
+fn fits(mut within: Within, room: usize) -> bool
+    requires { within.choice ≡ start_walk.entries }
+    ensures { result ≡ leb (length (within_of within.entry.rule within.entry.bounds.now)) room }
 {
-    if most(count) <= room {
-        return true;
-    }
-    let mut choice = [0u8; 8];
-    let mut left = room;
-    while odometer::go_on(count, priorities, backups, limits, &mut choice, rule) {
-        if left == 0 {
-            return false;
-        }
-        left -= 1;
-    }
-    true
+    most(within.bounds.count) <= room || within.nth(room).is_none()
 }
 
 // Puts one entry's four bytes, two records in each.
@@ -64,50 +41,27 @@ fn put_entry(out: &mut [u8], at: usize, choice: [u8; 8])
 }
 
 // Puts every choice within bounds, and counts them.
-fn fill<'a>(
-    count: u8,
-    priorities: &'a [u8; 8],
-    backups: &'a [u16; 8],
-    limits: &'a [u32; 72],
-    out: &mut [u8],
-    rule: Rule,
-) -> usize
-    requires levels { Levels priorities.now }
-    requires room { 4 * length (within_of rule (bounds_in 0 count priorities.now backups.now limits.now)) ≤ length out.old }
-    ensures { Filled (within_of rule (bounds_in 0 count priorities.now backups.now limits.now)) out.old result out.new }
+fn fill(within: Within, out: &mut [u8]) -> usize
+    requires start { within.choice ≡ start_walk.entries }
+    requires room { 4 * length (within_of within.rule within.bounds.now) ≤ length out.old }
+    ensures { Filled (within_of within.entry.rule within.entry.bounds.now) out.old result out.new }
 {
-    let mut choice = [0u8; 8];
     let mut entries: usize = 0;
-    while odometer::go_on(count, priorities, backups, limits, &mut choice, rule) {
+    for choice in within {
         put_entry(out, 4 * entries, choice);
         entries += 1;
     }
     entries
 }
 
-// Puts every choice within bounds where there is room for all, and else none: the refusal, 11 for too little room, beside how many are put.
-pub fn put_list<'a>(
-    count: u8,
-    priorities: &'a [u8; 8],
-    backups: &'a [u16; 8],
-    limits: &'a [u32; 72],
-    out: &mut [u8],
-    rule: Rule,
-) -> Listing
-    requires few { count ≤ 8 }
-    requires levels { Levels priorities.now }
-    requires most { length (within_of rule (bounds_in 0 count priorities.now backups.now limits.now)) ≤ factorial count }
-    ensures { Listed (within_of rule (bounds_in 0 count priorities.now backups.now limits.now)) out.old result out.new }
+// Puts every choice within bounds where there is room for all, and else none: how many are put, or 11 for too little room.
+pub fn put_list(within: Within, out: &mut [u8]) -> Result<usize, Refusal>
+    requires { within.choice ≡ start_walk.entries }
+    ensures { Listed (within_of within.entry.rule within.entry.bounds.now) out.old result out.new }
 {
-    if fits(count, priorities, backups, limits, out.len() / 4, rule) {
-        let entries = fill(count, priorities, backups, limits, out, rule);
-        return Listing {
-            refusal: 0,
-            entries,
-        };
-    }
-    Listing {
-        refusal: 11,
-        entries: 0,
+    if fits(within, out.len() / 4) {
+        Ok(fill(within, out))
+    } else {
+        Err(Refusal::ShortOutput)
     }
 }

@@ -1,52 +1,35 @@
-// From one choice to the next: whether a walk may go on after a start, the choice right after another, and the next one that meets a rule. A choice is lent, and goes on in its place.
-ghost use Rattle.std.specs.Prelude.{◌≡◌, true, ◌||◌, ◌≤◌, ◌<◌, ltb, map, length};
-ghost use Rattle.places.specs.Refusals.{or_else};
+// From one choice to the next: whether a walk may go on after a start, the choice right after another, and the next one that meets a rule.
+ghost use Rattle.std.specs.Prelude.{◌≡◌, true, ◌||◌, ◌≤◌, ◌<◌, ltb, map, length, slice_get};
+ghost use Rattle.places.specs.Answered.{answered};
 ghost use Rattle.analysis.specs.Common.Columns.{priorities_of};
-ghost use Rattle.analysis.specs.Common.Allowed.{all_allowed};
+ghost use Rattle.analysis.specs.Common.Allowed.{is_allowed, all_allowed};
 ghost use Rattle.analysis.specs.ByRule.{meets, rule_refusal};
 ghost use Rattle.choices.specs.Choices.{chosen};
 ghost use Rattle.choices.specs.Order.{all_zero, after_of};
 ghost use Rattle.choices.specs.Answers.{start_refusal};
-ghost use Rattle.analysis.specs.Bounds.Within.{bounds_in};
-ghost use Rattle.choices.specs.Stepping.{first_for, next_of, within_of, Levels, Arrived};
+ghost use Rattle.choices.specs.Stepping.{first_for, next_of, within_of, Levels};
 
-use analysis::{Rule, Verdict};
+use analysis::{Bounds, Rule};
+use places::refusal::Refusal;
 use sheet::Table;
-
-// A count as far as there are places.
-fn few(count: u8) -> usize
-    ensures { (result ≤ 8) × (count ≤ 8 → result ≡ count) }
-{
-    if count <= 8 { count as usize } else { 8 }
-}
 
 // The priorities of a table's records, 0 past the count, of any table that has no more than eight.
 fn priorities_of(table: Table) -> [u8; 8]
     ensures { table.count ≤ 8 → result ≡ priorities_of table }
 {
-    let count = few(table.count);
+    let count = usize::min(table.count as usize, 8);
     let mut priorities = [0u8; 8];
-    let mut place: usize = 0;
-    while place < count {
+    for place in 0..count {
         priorities[place] = table.records[place].priority;
-        place += 1;
     }
     priorities
 }
 
 // Whether no fault priority stands in it.
 fn all_zero(choice: &[u8; 8]) -> bool
-    requires { length choice.now ≡ 8 }
     ensures { result ≡ all_zero choice.now }
 {
-    let mut place: usize = 0;
-    while place < 8 {
-        if choice[place] != 0 {
-            return false;
-        }
-        place += 1;
-    }
-    true
+    choice.iter().all(|entry| *entry == 0)
 }
 
 // The first fault priority allowed for a record of the priority, 0 past the count.
@@ -56,28 +39,25 @@ fn first_fault(priority: u8) -> u8
     if priority == 0 { 0 } else { 1 }
 }
 
-// Whether every entry of a choice lies from the first to the priority.
+// Whether an entry lies from the first allowed for a record of the priority to the priority.
+fn is_allowed(priority: u8, entry: u8) -> bool
+    ensures { result ≡ is_allowed priority entry }
+{
+    !((entry < first_fault(priority)) | (priority < entry))
+}
+
+// Whether every entry of a choice is allowed.
 fn all_allowed<'a>(priorities: &'a [u8; 8], choice: &'a [u8; 8]) -> bool
-    requires whole { length priorities.now ≡ 8 }
-    requires room { length choice.now ≡ 8 }
     ensures { result ≡ all_allowed priorities.now choice.now }
 {
-    let mut place: usize = 0;
-    while place < 8 {
-        let entry = choice[place];
-        let priority = priorities[place];
-        if (entry < first_fault(priority)) | (priority < entry) {
-            return false;
-        }
-        place += 1;
-    }
-    true
+    priorities
+        .iter()
+        .zip(choice)
+        .all(|(priority, entry)| is_allowed(*priority, *entry))
 }
 
 // Whether a walk may go on after a choice: it is all zero, or allowed.
 fn may_start<'a>(priorities: &'a [u8; 8], choice: &'a [u8; 8]) -> bool
-    requires whole { length priorities.now ≡ 8 }
-    requires room { length choice.now ≡ 8 }
     ensures { result ≡ (all_zero choice.now || all_allowed priorities.now choice.now) }
 {
     if all_zero(choice) {
@@ -86,25 +66,11 @@ fn may_start<'a>(priorities: &'a [u8; 8], choice: &'a [u8; 8]) -> bool
     all_allowed(priorities, choice)
 }
 
-// The refusal under a rule of a start that is none: that of the table, then 13.
-fn judge_no_start(table: Table, rule: Rule) -> u8
-    ensures { result ≡ or_else (rule_refusal rule table) 13 }
+// The first choice of the priorities.
+fn first_choice(priorities: [u8; 8]) -> [u8; 8]
+    ensures { result ≡ map first_for priorities }
 {
-    let refusal = analysis::judge_rule(table, rule);
-    if refusal == 0 { 13 } else { refusal }
-}
-
-// Puts the first choice of the priorities.
-fn put_first(priorities: &[u8; 8], choice: &mut [u8; 8])
-    requires whole { length priorities.now ≡ 8 }
-    requires room { length choice.old ≡ 8 }
-    ensures { choice.new ≡ map first_for priorities.now }
-{
-    let mut place: usize = 0;
-    while place < 8 {
-        choice[place] = first_fault(priorities[place]);
-        place += 1;
-    }
+    priorities.map(first_fault)
 }
 
 // Whether an entry can rise: it is below the priority, so that one more fits its byte.
@@ -117,18 +83,14 @@ fn can_rise(entry: u8, priority: u8) -> bool
 
 // Puts the choice right after another in its place; whether there is one.
 fn next(priorities: &[u8; 8], choice: &mut [u8; 8]) -> bool
-    requires whole { length priorities.now ≡ 8 }
-    requires room { length choice.old ≡ 8 }
     ensures answer { result ≡ (next_of priorities.now choice.old).rose }
     ensures left { choice.new ≡ (next_of priorities.now choice.old).entries }
 {
     if all_zero(choice) {
-        put_first(priorities, choice);
+        *choice = first_choice(*priorities);
         return true;
     }
-    let mut place: usize = 8;
-    while 0 < place {
-        place -= 1;
+    for place in (0..8).rev() {
         if can_rise(choice[place], priorities[place]) {
             choice[place] += 1;
             return true;
@@ -138,77 +100,49 @@ fn next(priorities: &[u8; 8], choice: &mut [u8; 8]) -> bool
     false
 }
 
-// Goes on to the first choice after another that stays within bounds; whether there is one.
-pub fn go_on<'a>(
-    count: u8,
-    priorities: &'a [u8; 8],
-    backups: &'a [u16; 8],
-    limits: &'a [u32; 72],
-    choice: &mut [u8; 8],
-    rule: Rule,
-) -> bool
-    requires levels { Levels priorities.now }
-    requires room { length choice.old ≡ 8 }
-    requires allowed { (all_zero choice.old || all_allowed priorities.now choice.old) ≡ true }
-    ensures { Arrived (after_of choice.old (within_of rule (bounds_in 0 count priorities.now backups.now limits.now))) result choice.new }
+// The first choice after another that stays within bounds, where there is one.
+pub fn go_on(bounds: &Bounds, rule: Rule, mut choice: [u8; 8]) -> Option<[u8; 8]>
+    requires levels { Levels bounds.now.priorities }
+    requires allowed { (all_zero choice || all_allowed bounds.now.priorities choice) ≡ true }
+    ensures { result ≡ slice_get (after_of choice (within_of rule bounds.now)) 0 }
 {
-    while next(priorities, choice) {
-        if analysis::meets_lent(0, count, priorities, backups, limits, choice, rule).yes {
-            return true;
+    while next(&bounds.priorities, &mut choice) {
+        if analysis::meets_lent(bounds, &choice, rule).unwrap_or(false) {
+            return Some(choice);
         }
     }
-    false
+    None
 }
 
-// Goes on to the first choice after another that meets a rule; whether there is one. The bounds, which have no record where no choice meets the rule, are found for it.
-fn advance(table: Table, choice: &mut [u8; 8], rule: Rule) -> bool
-    requires judged { rule_refusal rule table ≡ 0 }
-    requires room { length choice.old ≡ 8 }
-    requires allowed { (all_zero choice.old || all_allowed (priorities_of table) choice.old) ≡ true }
-    ensures { Arrived (after_of choice.old (chosen (meets rule) table)) result choice.new }
+// The first choice after another that meets a rule, where there is one. The bounds, of which there are none where no choice meets the rule, are found for it.
+fn advance(table: Table, choice: [u8; 8], rule: Rule) -> Result<Option<[u8; 8]>, Refusal>
+    requires { (all_zero choice || all_allowed (priorities_of table) choice) ≡ true }
+    ensures { result ≡ answered (rule_refusal rule table) (slice_get (after_of choice (chosen (meets rule) table)) 0) }
 {
-    let bounds = analysis::bounds_of(table, rule);
-    if bounds.count == 0 {
-        return false;
+    match analysis::bounds_of(table, rule)? {
+        Some(bounds) => Ok(go_on(&bounds, rule, choice)),
+        None => Ok(None),
     }
-    go_on(
-        bounds.count,
-        &bounds.priorities,
-        &bounds.backups,
-        &bounds.limits,
-        choice,
-        rule,
-    )
 }
 
-// Goes on from a start to the first choice after it that meets a rule: the refusal, or 0 beside whether there is one. The choice right after the start is looked at first, from the lowest task up,
+// The first choice after a start that meets a rule, where there is one. The choice right after the start is looked at first, from the lowest task up,
 // which judges the table as well; one found at once does not pay for bounds.
-pub fn step(table: Table, choice: &mut [u8; 8], rule: Rule) -> Verdict
-    requires room { length choice.old ≡ 8 }
-    ensures refused { result.refusal ≡ start_refusal rule table choice.old }
-    ensures found { result.refusal ≡ 0 → Arrived (after_of choice.old (chosen (meets rule) table)) result.yes choice.new }
+pub fn step(table: Table, start: [u8; 8], rule: Rule) -> Result<Option<[u8; 8]>, Refusal>
+    ensures { result ≡ answered (start_refusal rule table start) (slice_get (after_of start (chosen (meets rule) table)) 0) }
 {
     let priorities = priorities_of(table);
-    if !may_start(&priorities, choice) {
-        return Verdict {
-            refusal: judge_no_start(table, rule),
-            yes: false,
-        };
+    if !may_start(&priorities, &start) {
+        analysis::judge_rule(table, rule)?;
+        return Err(Refusal::BadChoice);
     }
-    let is_left = next(&priorities, choice);
-    let first = analysis::meets_choice(table, *choice, rule);
-    if first.refusal != 0 {
-        return first;
-    }
+    let mut choice = start;
+    let is_left = next(&priorities, &mut choice);
+    let is_met = analysis::meets_choice(table, choice, rule)?;
     if !is_left {
-        return Verdict {
-            refusal: 0,
-            yes: false,
-        };
+        return Ok(None);
     }
-    if first.yes {
-        return first;
+    if is_met {
+        return Ok(Some(choice));
     }
-    let yes = advance(table, choice, rule);
-    Verdict { refusal: 0, yes }
+    advance(table, choice, rule)
 }

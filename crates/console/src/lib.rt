@@ -6,5 +6,5 @@ pub mod judging;
 pub mod output;
 pub mod passing;
 pub mod refusals;
-mod responses;
+pub mod responses;
 pub mod taking;

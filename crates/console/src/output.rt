@@ -1,53 +1,48 @@
-// Lines gathered in a buffer and written to standard output.
+// Lines gathered on a page and written to a stream together.
 use report::Line;
 use std::io::{Error, Print};
+use streams::endings::Ending;
 use streams::{endings, parts};
 
-// Where the next line goes, or why the lines before it could not be written.
-#[derive(Drop)]
-pub enum Kept {
-    Next(usize),
-    Lost(Error),
+// Lines that are gathered: their bytes, and where the next line goes.
+#[derive(Clone, Copy)]
+pub struct Page {
+    bytes: [u8; 4096],
+    end: usize,
 }
 
-// Writes the lines gathered so far, which end at a place of the buffer, on a stream.
-pub fn write_on<P: Print>(stream: &P, buffer: &[u8], end: usize) -> Result<(), Error> {
-    let length = parts::part(end, buffer);
-    stream.write_all(&buffer[..length])
-}
+// A page without a line.
+pub const EMPTY: Page = Page {
+    bytes: [0; 4096],
+    end: 0,
+};
 
-// The same on standard output.
-pub fn write(rt: HostRuntime, buffer: &[u8], end: usize) -> Result<(), Error> {
-    write_on(&rt.stdout(), buffer, end)
-}
-
-// Gathers one more line; where it has no room, those before it are written first.
-pub fn keep(rt: HostRuntime, buffer: &mut [u8], end: usize, line: Line) -> Kept {
-    let next = report::put_line(line, buffer, end);
-    if next != end {
-        return Kept::Next(next);
+impl Page {
+    // Writes the lines gathered so far.
+    pub fn write<P: Print>(&self, stream: &P) -> Result<(), Error> {
+        stream.write_all(&self.bytes[..parts::part(self.end, &self.bytes)])
     }
-    match write(rt, buffer, end) {
-        Ok(()) => Kept::Next(report::put_line(line, buffer, 0)),
-        Err(error) => Kept::Lost(error),
-    }
-}
 
-// Writes the lines gathered so far and one more.
-pub fn finish(rt: HostRuntime, buffer: &mut [u8], end: usize, line: Line) -> Result<(), Error> {
-    match keep(rt, buffer, end, line) {
-        Kept::Next(next) => write(rt, buffer, next),
-        Kept::Lost(error) => Err(error),
+    // Gathers one more line; where it has no room, those before it are written first.
+    pub fn keep<P: Print>(&mut self, stream: &P, line: Line) -> Result<(), Error> {
+        let mut next = report::put_line(line, &mut self.bytes, self.end);
+        if next == self.end {
+            self.write(stream)?;
+            next = report::put_line(line, &mut self.bytes, 0);
+        }
+        self.end = next;
+        Ok(())
     }
-}
 
-// Writes one line.
-fn write_line(rt: HostRuntime, line: Line) -> Result<(), Error> {
-    let mut buffer = io::buffer();
-    finish(rt, &mut buffer, 0, line)
+    // Writes the lines gathered so far and one more.
+    pub fn finish<P: Print>(&mut self, stream: &P, line: Line) -> Result<(), Error> {
+        self.keep(stream, line)?;
+        self.write(stream)
+    }
 }
 
 // Writes a line that is the whole answer.
-pub fn line(rt: HostRuntime, line: Line, ending: u8) -> u8 {
-    endings::ended(write_line(rt, line), ending)
+pub fn line(rt: HostRuntime, line: Line, ending: Ending) -> Ending {
+    let mut page = EMPTY;
+    endings::ended(page.finish(&rt.stdout(), line), ending)
 }

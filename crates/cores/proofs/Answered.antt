@@ -5,20 +5,19 @@ use mathlib.Core.Bool.{Bool, true, false, cond}
 use mathlib.Core.List.{List}
 use native.Mathlib.Omega.{arith}
 use borrow.Author.Tests.{ne_eqb}
-use lib.ListN.{replicate}
-use Rattle.places.specs.Refusals.{or_else}
+use Rattle.std.specs.Prelude.{Ok, Err}
+use Rattle.places.specs.declared.refusal.Refusal.{Refusal}
+use Rattle.places.specs.Answered.{answered}
 use Rattle.places.proofs.Refusals.{none_of}
+use Rattle.places.proofs.Answered.{good_of, value_of, broken_of, refusal_of}
 use Rattle.sheet.specs.declared.Table.{Table}
-use Rattle.sheet.specs.declared.Reading.{Reading}
 use Rattle.sheet.specs.Layout.{table_of}
 use Rattle.sheet.specs.Rules.{outside, table_refusal, whole_sheet_refusal}
-use Rattle.sheet.specs.Answers.{whole_answer}
 use Rattle.sheet.proofs.Cases.{within}
 use Rattle.sheet.proofs.Demands.{table-good}
-use Rattle.sheet.proofs.Whole.{whole-good, whole-refusal, whole-table}
+use Rattle.sheet.proofs.Told.{whole-good}
 use Rattle.analysis.specs.Common.Entries.{own_tasks}
-use Rattle.cores.specs.declared.Placing.{Placing}
-use Rattle.cores.specs.declared.Fit.TheVariants.{Refused}
+use Rattle.cores.specs.Told.{fit_told, placing_told}
 use Rattle.cores.specs.Answers.{number_refusal, box_refusal, placing_of, placing_answer}
 
 -- a number of cores that is not refused is from 1 to 4
@@ -30,29 +29,21 @@ number-within number e = within number 4 (go (outside number 4) e)
     go true z = absurd (omega arith)
     go false z = refl
 
--- what the code has judged, of a sheet that it has read
-module _ (sheet : List ℕ) (number : ℕ) (reading : Reading) (read : reading ≡ whole_answer sheet) (refusal : ℕ) (judged : refusal ≡ or_else reading.refusal (number_refusal number)) where
-  -- is the refusal of the sheet and the number
-  box-judged : refusal ≡ box_refusal sheet number
-  unfolding box_refusal
-  box-judged = judged ∙ ap (λ (r : ℕ). or_else r (number_refusal number)) (whole-refusal sheet reading read)
+module _ (sheet : List ℕ) (number : ℕ) where
+  -- refused, that refusal
+  pub place-refused : {e : Refusal} → Err e ≡ answered (box_refusal sheet number) (table_of sheet) → Err e ≡ placing_told (placing_answer sheet number)
+  unfolding placing_answer placing_of fit_told
+  place-refused read = ap Err (refusal_of _ _ read) ∙ simp (ne_eqb (box_refusal sheet number) 0 (broken_of _ _ read))
 
-  pub place-refused : (refusal ≡ 0 → ⊥) → record { fit = Refused refusal; cores = replicate 8 0 } ≡ placing_answer sheet number
-  unfolding placing_answer placing_of
-  place-refused broken = rw (← box-judged) (simp (ne_eqb refusal 0 broken))
-
-  module _ (passed : refusal ≡ 0) where
+  module _ {table : Table} (read : Ok table ≡ answered (box_refusal sheet number) (table_of sheet)) where
     fine : (whole_sheet_refusal sheet ≡ 0) × (number_refusal number ≡ 0)
     unfolding box_refusal
-    fine = none_of (whole_sheet_refusal sheet) (number_refusal number) (sym box-judged ∙ passed)
-
-    read_table : reading.table ≡ table_of sheet
-    read_table = whole-table sheet reading read fine.0
+    fine = none_of (whole_sheet_refusal sheet) (number_refusal number) (good_of _ _ read)
 
     -- what is read is good, and the number at most 4
-    pub place-good : (table_refusal reading.table ≡ 0) × (number ≤ 4)
-    place-good = (ap table_refusal read_table ∙ table-good sheet (whole-good sheet fine.0), (number-within number fine.1).1)
+    pub place-good : (table_refusal table ≡ 0) × (number ≤ 4)
+    place-good = (ap table_refusal (value_of _ _ read) ∙ table-good sheet (whole-good sheet fine.0), (number-within number fine.1).1)
 
-    pub place-fitted : (placing : Placing) → placing ≡ placing_of 0 (own_tasks reading.table) number → placing ≡ placing_answer sheet number
+    pub place-fitted : placing_of 0 (own_tasks table) number ≡ placing_answer sheet number
     unfolding placing_answer
-    place-fitted placing is = is ∙ ap₂ (λ (r : ℕ) (t : Table). placing_of r (own_tasks t) number) (sym (sym box-judged ∙ passed)) read_table
+    place-fitted = ap₂ (λ (r : ℕ) (t : Table). placing_of r (own_tasks t) number) (sym (good_of _ _ read)) (value_of _ _ read)

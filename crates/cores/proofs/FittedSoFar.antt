@@ -11,11 +11,13 @@ use borrow.Author.Tests.{eq-eqb, ne_eqb}
 use lib.Dec.{eqb}
 use lib.ListN.{get_or, set, replicate}
 use lib.Seq.{get_or-set_same, get_or-set_other}
+use Rattle.std.specs.Prelude.{Ok}
 use Rattle.places.specs.Places.{filled_below}
 use Rattle.places.proofs.Filled.{length-filled, alike_at}
 use Rattle.places.proofs.Search.{first_found, first-none}
 use Rattle.analysis.specs.Common.Tasks.{Tasks}
-use Rattle.cores.specs.declared.Fit.TheVariants.{Everyone, FitsNone}
+use Rattle.cores.specs.declared.Placing.TheVariants as put
+use Rattle.cores.specs.Told.{fit_told, placing_told}
 use Rattle.cores.specs.Answers.{cores_of, placing_of}
 use Rattle.cores.specs.FirstFit.{lowest_core, cores_before, core_of, fits_none}
 
@@ -64,13 +66,13 @@ module _ (s : Tasks) (number : ℕ) where
   all_fit fitted = first-none (λ taken. eqb (core_of s number (taken - 1)) 0) s.count 1 (λ k some low. tests_below s.count fitted k some (omega arith))
 
   -- the answer where a record fits none
-  pub placing-none : (place : ℕ) → place < s.count → Fitted place → core_of s number place ≡ 0 → record { fit = FitsNone (place + 1); cores = replicate 8 0 } ≡ placing_of 0 s number
-  unfolding placing_of
+  pub placing-none : (place : ℕ) → place < s.count → Fitted place → core_of s number place ≡ 0 → Ok (put.FitsNone (place + 1)) ≡ placing_told (placing_of 0 s number)
+  unfolding placing_of fit_told
   placing-none place below fitted none =
       let told = none-at place below fitted none in
       simp (told, ne_eqb (place + 1) 0 (λ e. omega arith))
 
   -- and where each record has its core
-  pub placing-all : (cores : List ℕ) → cores ≡ given s.count → Fitted s.count → record { fit = Everyone; cores = cores } ≡ placing_of 0 s number
-  unfolding placing_of cores_of
+  pub placing-all : (cores : List ℕ) → cores ≡ given s.count → Fitted s.count → Ok (put.Everyone cores) ≡ placing_told (placing_of 0 s number)
+  unfolding placing_of cores_of fit_told
   placing-all cores e fitted = simp (all_fit fitted, e)

@@ -6,6 +6,7 @@ pub mod Trying
 pub mod FittedSoFar
 pub mod Answered
 pub mod Refused
+pub mod Told
 pub mod Demands
 pub mod OneCore
 pub mod NoneMissed

@@ -3,7 +3,7 @@ use Prim.Native.Nat.{ℕ, ◌≤◌, ◌<◌}
 use mathlib.Core.Path.{◌≡◌, refl, sym, ◌∙◌}
 use mathlib.Core.Bool.{Bool, true, false, cond}
 use mathlib.Core.List.{List}
-use mathlib.Core.Logic.{◌⊎◌, ◌↔◌, ⊎_elim}
+use mathlib.Core.Logic.{◌↔◌, ⊎_elim}
 use native.Mathlib.Decide.{ℕ_discrete}
 use native.Mathlib.Omega.{arith}
 use borrow.Author.Tests.{eqb-true, eqb-false}
@@ -19,8 +19,8 @@ use Rattle.sheet.proofs.Order.{sheet-in-order, whole-in-order, whole_tells}
 use Rattle.sheet.proofs.Refused.{given-unless}
 use Rattle.sheet.proofs.Cases.{outside-tells}
 use Rattle.analysis.specs.Common.Tasks.{Tasks}
-use Rattle.cores.specs.declared.Placing.{Placing}
-use Rattle.cores.specs.declared.Fit.TheVariants.{Refused, Everyone, FitsNone}
+use Rattle.cores.specs.Told.{Placing}
+use Rattle.cores.specs.Told.Fit.{Refused, Everyone, FitsNone}
 use Rattle.cores.specs.FirstFit.{core_of, fits_none}
 use Rattle.cores.specs.Answers.{number_refusal, box_refusal, cores_of, placing_of}
 

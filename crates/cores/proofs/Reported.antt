@@ -18,7 +18,7 @@ use Rattle.analysis.specs.Common.Tasks.{Tasks}
 use Rattle.analysis.specs.Published.Response.{passes}
 use Rattle.analysis.specs.Common.Entries.{own_tasks}
 use Rattle.replay.specs.Logs.Answers.{replay_refusal, replay_answer}
-use Rattle.cores.specs.declared.Fit.TheVariants.{Everyone}
+use Rattle.cores.specs.Told.Fit.{Everyone}
 use Rattle.cores.specs.Renumbered.{core_tasks}
 use Rattle.cores.specs.FirstFit.{core_of, fits_none}
 use Rattle.cores.specs.Tried.{Holds}

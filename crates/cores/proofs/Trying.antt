@@ -20,7 +20,7 @@ use Rattle.analysis.specs.Published.Response.{passes}
 use Rattle.analysis.specs.Common.Entries.{own_tasks}
 use Rattle.analysis.specs.Published.Answers.{own_assessment}
 use Rattle.analysis.proofs.Laws.Common.Choice.{own_at, own-refusal}
-use Rattle.analysis.proofs.Refused.{assessed-verdict}
+use Rattle.analysis.proofs.Refused.{assessed-verdict, own-refused}
 use Rattle.analysis.proofs.Laws.Published.Reordered.{passes-held}
 use Rattle.cores.specs.Renumbered as renumbering
 use Rattle.cores.specs.Renumbered.{core_tasks, tasks_at, picked}
@@ -111,7 +111,11 @@ module _ (t : Table) (good : table_refusal t ≡ 0) (cores : ℕ → ℕ) (place
       let found = (picks (joins cores place core) (suc place)).found place (omega arith) (ap (λ (b : Bool). b || eqb (cores place) core) (eq-eqb place place refl)) in
       omega (arith, found.1)
 
-  -- so the verdict on its table is whether its tasks still pass
+  -- so its table is not refused
+  pub tried-fine : (tried : Table) → Tried t cores place core tried → (own_assessment tried).refusal ≡ 0
+  tried-fine tried holds = own-refused tried ∙ core-good t good (joins cores place core) (suc place) below tried-some tried holds
+
+  -- and the verdict on it is whether its tasks still pass
   pub tried-passes : (tried : Table) → Tried t cores place core tried → (own_assessment tried).passes ≡ still_pass (own_tasks t) cores place core
   unfolding still_pass
   tried-passes tried holds =

@@ -2,8 +2,10 @@
 use mathlib.Core.Path.{◌≡◌}
 use contract.Lifetimes.{Lfts}
 use Rattle.sheet.proofs.Unique.{both}
+use Rattle.std.specs.Prelude.{Result}
+use Rattle.places.specs.declared.refusal.Refusal.{Refusal}
 use Rattle.cores.specs.declared.Placing.{Placing}
 use Rattle.cores.proofs.place.Reads as placed
 
-pub place-unique : (κs : Lfts 1) (args : _) (a b : Placing) (s : _) → placed.Learnt κs args a s → placed.Learnt κs args b s → a ≡ b
+pub place-unique : (κs : Lfts 1) (args : _) (a b : Result Placing Refusal) (s : _) → placed.Learnt κs args a s → placed.Learnt κs args b s → a ≡ b
 place-unique κs args a b s = both

@@ -6,8 +6,8 @@ use Rattle.sheet.specs.Layout.{table_of}
 use Rattle.sheet.specs.Rules.{outside, whole_sheet_refusal}
 use Rattle.analysis.specs.Common.Tasks.{Tasks}
 use Rattle.analysis.specs.Common.Entries.{own_tasks}
-use Rattle.cores.specs.declared.Placing.{Placing}
-use Rattle.cores.specs.declared.Fit.TheVariants.{Refused, Everyone, FitsNone}
+use Rattle.cores.specs.Told.{Placing}
+use Rattle.cores.specs.Told.Fit.{Refused, Everyone, FitsNone}
 use Rattle.cores.specs.FirstFit.{core_of, fits_none}
 
 -- "23 for a core count outside 1 to 4"

@@ -30,11 +30,9 @@ fn renumber(table: Table, cores: [u8; 8], place: usize, core: u8, priority: u8) 
     ensures { result ≡ priority_among (record_at table.records) (joins (λ k. get_or cores k 0) place core) (suc place) priority }
 {
     let mut number: u8 = 1;
-    let mut other: usize = 0;
-    while other <= place {
+    for other in 0..place + 1 {
         let is_lower = table.records[other].priority < priority;
         number += one_if(joins(cores, place, core, other) & is_lower);
-        other += 1;
     }
     number
 }
@@ -44,12 +42,9 @@ fn renumbered(task: Record, number: u8) -> Record
     ensures { result ≡ renumbered task number }
 {
     Record {
-        cost: task.cost,
-        backup: task.backup,
-        deadline: task.deadline,
-        period: task.period,
         priority: number,
         fault_priority: number,
+        ..task
     }
 }
 
@@ -60,19 +55,15 @@ pub fn table_with(table: Table, cores: [u8; 8], place: usize, core: u8) -> Table
 {
     let mut records = [table.records[0]; 8];
     let mut count: usize = 0;
-    let mut other: usize = 0;
-    while other <= place {
+    for other in 0..place + 1 {
         let task = table.records[other];
         let number = renumber(table, cores, place, core, task.priority);
         records[count] = renumbered(task, number);
         count += joins(cores, place, core, other) as usize;
-        other += 1;
     }
     Table {
         count: count as u8,
-        interval: table.interval,
-        round: table.round,
-        share: table.share,
         records,
+        ..table
     }
 }

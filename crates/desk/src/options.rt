@@ -3,52 +3,45 @@
 use streams::words;
 use streams::words::Options;
 
-// The options, the place of the first word after them and of the next, and whether the scale is a number.
+// The options, and the place of the first word after them.
 #[derive(Clone, Copy)]
 pub struct Chosen {
     pub first: u16,
-    pub next: u16,
     pub options: Options,
-    pub is_good: bool,
 }
 
 // Whether the argument at a place is a word.
 fn is_word(rt: HostRuntime, place: u16, word: &[u8]) -> bool {
-    let mut given = io::buffer();
-    let length = words::put(rt, place as usize, &mut given);
-    check::same(&given[..length], word)
+    let mut buffer = io::buffer();
+    words::put(rt, place as usize, &mut buffer) == word
 }
 
-// The options that stand from a place on.
-fn read(rt: HostRuntime, first: u8) -> Chosen {
-    let mut scale = io::buffer();
-    let length = words::put(rt, first as usize + 3, &mut scale);
-    let number = cells::number_of(&scale[..length]);
-    Chosen {
-        first: first as u16 + 4,
-        next: first as u16 + 5,
-        options: Options {
-            is_text: is_word(rt, first as u16 + 1, b"text"),
-            is_quiet: is_word(rt, first as u16 + 2, b"quiet"),
-            scale: number.value,
-        },
-        is_good: number.refusal == 0,
+// The scale that the argument at a place says.
+fn scale(rt: HostRuntime, place: u16) -> Option<u64> {
+    let mut buffer = io::buffer();
+    let number = cells::number_of(words::put(rt, place as usize, &mut buffer));
+    if number.refusal == 0 {
+        Some(number.value)
+    } else {
+        None
     }
 }
 
-// The options at a place, or none where there is none.
-pub fn at(rt: HostRuntime, first: u8) -> Chosen {
-    if is_word(rt, first as u16, b"--with") {
-        return read(rt, first);
+// The options at a place, or those of no option where there is none; nothing where the scale is no number.
+pub fn at(rt: HostRuntime, place: u8) -> Option<Chosen> {
+    let first = u16::from(place);
+    if !is_word(rt, first, b"--with") {
+        return Some(Chosen {
+            first,
+            options: words::NO_OPTIONS,
+        });
     }
-    Chosen {
-        first: first as u16,
-        next: first as u16 + 1,
+    Some(Chosen {
+        first: first + 4,
         options: Options {
-            is_text: false,
-            is_quiet: false,
-            scale: 1,
+            is_text: is_word(rt, first + 1, b"text"),
+            is_quiet: is_word(rt, first + 2, b"quiet"),
+            scale: scale(rt, first + 3)?,
         },
-        is_good: true,
-    }
+    })
 }

@@ -1,7 +1,7 @@
 -- The answers of a sheet that is read and asked: what each crate below answers, as a number, is what the definitions say.
 -- Assumes nothing.
 use Prim.Native.Nat.{ℕ, zero, suc, ◌+◌, ◌*◌, ◌≤◌, ◌<◌}
-use mathlib.Core.Path.{◌≡◌, refl, sym, ap, ◌∙◌}
+use mathlib.Core.Path.{◌≡◌, refl, sym, ap, subst, ◌∙◌}
 use mathlib.Core.Bool.{Bool, true, false, cond}
 use mathlib.Core.List.{List}
 use native.Mathlib.Decide.{ℕ_discrete}
@@ -9,30 +9,32 @@ use native.Mathlib.Nat.{suc-ne-zero}
 use native.Mathlib.Omega.{arith}
 use borrow.Author.Tests.{ne_eqb}
 use lib.Dec.{eqb, ltb}
-use lib.IntN.{ℤ}
 use mir.Val.{bool_byte}
+use Rattle.std.specs.Prelude.{Option, Result, Ok, Err}
+use Rattle.places.specs.declared.refusal.Refusal.{Refusal}
 use Rattle.places.specs.Refusals.{or_else}
+use Rattle.places.specs.Answered as said
+use Rattle.places.proofs.Answered.{good_of, value_of, broken_of, told_number, Known}
 use Rattle.places.proofs.Refusals.{first_of, next-of, none_of}
-use Rattle.sheet.specs.declared.Reading.{Reading}
 use Rattle.sheet.specs.declared.Table.{Table}
-use Rattle.sheet.specs.Layout.{count_of, edition_of, start_of, table_of, no_table}
+use Rattle.sheet.specs.Layout.{count_of, edition_of, start_of, table_of}
 use Rattle.sheet.specs.Rules.{sheet_refusal, table_refusal}
 use Rattle.sheet.specs.Answers.{read_answer, place_refusal, part_start}
 use Rattle.sheet.proofs.Cases.{good-place, good-table}
-use Rattle.sheet.proofs.Demands.{read-good, table-good}
+use Rattle.sheet.proofs.Demands.{table-good}
+use Rattle.sheet.proofs.Told.{read-told, sheet-known}
 use Rattle.analysis.specs.declared.Entry.{Entry}
-use Rattle.analysis.specs.declared.Timed.{Timed}
-use Rattle.analysis.specs.declared.Assessment.{Assessment}
+use Rattle.analysis.specs.Told.{Timed, Assessment, least_told}
+use Rattle.analysis.specs.declared.Rule.{Rule}
 use Rattle.analysis.specs.declared.Rule.TheVariants.{Published}
-use Rattle.analysis.specs.declared.Interval.{Interval}
-use Rattle.analysis.specs.Published.Response.{passes}
 use Rattle.analysis.specs.Common.Entries.{own_tasks, assessed}
 use Rattle.analysis.specs.Published.Answers.{entry_of, least_interval, least_of, interval_answer}
 use Rattle.analysis.specs.ByRule.{rule_refusal, meets, place_refusal as asked_refusal, time_by, entry_by, choice_assessment_by, own_assessment_by}
 use Rattle.analysis.specs.BySheet.{sheet_place_refusal, timed_in, assessed_in}
 use Rattle.analysis.proofs.Laws.ByRule.{own-judged}
-use Rattle.fidhaqooban.specs.Numbers.{answer_of, time_of}
-use Rattle.fidhaqooban.specs.Answers.{response_number, verdict_number, interval_answered, interval_number, record_number}
+use Rattle.analysis.proofs.Laws.BySheet.{sheet-place-known, sheet-rule-known, assessed-refusal}
+use Rattle.fidhaqooban.specs.Numbers.{answer_of, number_from, interval_from, time_of}
+use Rattle.fidhaqooban.specs.Answers.{response_number, verdict_number, interval_number, record_number}
 
 -- a number that is not 0 is tested so
 pub some : (n : ℕ) → eqb (suc n) 0 ≡ false
@@ -49,14 +51,6 @@ pub no-next : (first : ℕ) → or_else first 0 ≡ first
 unfolding or_else
 no-next zero = refl
 no-next (suc n) = simp (some n)
-
--- the first of two refusals is told, beside no value; where there is none, what is asked answers
-pub asked : (first next value : ℕ) (number : ℤ) → (first ≡ 0 → answer_of next value ≡ number) → ((first ≡ 0 → ⊥) → answer_of first 0 ≡ number) → answer_of (or_else first next) value ≡ number
-asked first next value number good bad = go (ℕ_discrete first 0)
-  where
-    go : Dec (first ≡ 0) → answer_of (or_else first next) value ≡ number
-    go (yes none) = ap (λ (r : ℕ). answer_of r value) (next-of next none) ∙ good none
-    go (no broken) = ap (λ (r : ℕ). answer_of r value) (first_of first next broken) ∙ answered first value 0 (λ none. absurd (broken none)) ∙ bad broken
 
 -- a place that is not refused is one of eight
 pub place-few : (s : List ℕ) (place refusal : ℕ) → refusal ≡ place_refusal s place → refusal ≡ 0 → place < 8
@@ -81,75 +75,79 @@ module _ (s : List ℕ) (place : ℕ) where
   start-answered = answered (place_refusal s place) _ _ (λ fine. simp fine)
 
 -- what is known after a sheet is read
-module _ (s : List ℕ) (reading : Reading) (e : reading ≡ read_answer s) where
-  pub refusal-read : reading.refusal ≡ sheet_refusal s
+module _ (s : List ℕ) {table : Table} (read : Ok table ≡ said.answered (read_answer s).refusal (read_answer s).table) where
+  pub good-read : sheet_refusal s ≡ 0
+  good-read = (read-told s read).0
+
+  pub table-read : table ≡ table_of s
+  table-read = (read-told s read).1
+
+  pub good-table-read : table_refusal (table_of s) ≡ 0
+  good-table-read = table-good s good-read
+
+  pub count-read : table.count ≤ 8
+  count-read = rw table-read (good-table (table_of s) good-table-read).count.1
+
+-- and after it is refused: its number, whatever else is asked
+module _ (s : List ℕ) {e : Refusal} (read : Err e ≡ said.answered (read_answer s).refusal (read_answer s).table) where
+  pub broken-read : sheet_refusal s ≡ 0 → ⊥
   unfolding read_answer
-  refusal-read = ap (λ (r : Reading). r.refusal) e
+  broken-read = broken_of _ _ read
 
-  pub good-read : reading.refusal ≡ 0 → sheet_refusal s ≡ 0
-  good-read left = sym refusal-read ∙ left
-
-  pub table-read : reading.refusal ≡ 0 → reading.table ≡ table_of s
-  table-read left = ap (λ (r : Reading). r.table) (e ∙ read-good s (good-read left))
-
-  pub broken-read : (reading.refusal ≡ 0 → ⊥) → sheet_refusal s ≡ 0 → ⊥
-  broken-read taken good = taken (refusal-read ∙ good)
-
-  -- a refused sheet gives zeros
-  pub no-table-read : (reading.refusal ≡ 0 → ⊥) → reading.table ≡ no_table
+  pub number-read : said.number_of e ≡ sheet_refusal s
   unfolding read_answer
-  no-table-read taken = ap (λ (r : Reading). r.table) e ∙ simp (ne_eqb (sheet_refusal s) 0 (broken-read taken))
+  number-read = told_number _ _ (sheet-known s) read
 
-  pub count-read : reading.table.count ≤ 8
-  count-read = go (ℕ_discrete reading.refusal 0)
-    where
-      go : Dec (reading.refusal ≡ 0) → reading.table.count ≤ 8
-      go (yes left) = rw (table-read left) (good-table (table_of s) (table-good s (good-read left))).count.1
-      go (no taken) = omega (arith, ap (λ (t : Table). t.count) (no-table-read taken))
+  module _ (value : ℕ) where
+    pub sheet-refused : answer_of (said.number_of e) 0 ≡ answer_of (sheet_refusal s) value
+    sheet-refused = ap (λ (r : ℕ). answer_of r 0) number-read ∙ answered (sheet_refusal s) 0 value (λ good. absurd (broken-read good))
 
-  -- a sheet that gives a record is good
-  pub some_read : 1 ≤ reading.table.count → reading.refusal ≡ 0
-  some_read some = go (ℕ_discrete reading.refusal 0)
-    where
-      go : Dec (reading.refusal ≡ 0) → reading.refusal ≡ 0
-      go (yes left) = left
-      go (no taken) = absurd (omega (arith, ap (λ (t : Table). t.count) (no-table-read taken)))
+    pub first-refused : (next : ℕ) → answer_of (said.number_of e) 0 ≡ answer_of (or_else (sheet_refusal s) next) value
+    first-refused next = sheet-refused ∙ ap (λ (r : ℕ). answer_of r value) (sym (first_of (sheet_refusal s) next broken-read))
 
-  -- a refused sheet's answer has no value, and no further refusal
-  module _ (taken : reading.refusal ≡ 0 → ⊥) (value : ℕ) where
-    pub sheet-refused : answer_of reading.refusal 0 ≡ answer_of (sheet_refusal s) value
-    sheet-refused = answered reading.refusal 0 value (λ left. absurd (taken left)) ∙ ap (λ (r : ℕ). answer_of r value) refusal-read
-
-    pub first-refused : (next : ℕ) → answer_of reading.refusal 0 ≡ answer_of (or_else (sheet_refusal s) next) value
-    first-refused next = sheet-refused ∙ ap (λ (r : ℕ). answer_of r value) (sym (first_of (sheet_refusal s) next (broken-read taken)))
+-- an answer as a number
+pub number-answered : {r value other : ℕ} → Known r → (x : Result ℕ Refusal) → x ≡ said.answered r value → (r ≡ 0 → value ≡ other) → number_from x ≡ answer_of r other
+unfolding number_from
+number-answered {r} {value} {other} known (Ok n) is same =
+    let fine = good_of r value is in
+    ap (answer_of 0) (value_of r value is ∙ same fine) ∙ ap (λ (k : ℕ). answer_of k other) (sym fine)
+number-answered {r} {value} {other} known (Err e) is same =
+    ap (λ (k : ℕ). answer_of k 0) (told_number r value known is) ∙ answered r 0 other (λ fine. absurd (broken_of r value is fine))
 
 -- a yes is the number 1, a no 0
 pub bool-number : (b : Bool) → bool_byte b ≡ cond b 1 0
 bool-number true = refl
 bool-number false = refl
 
--- an interval is the least one as a number, or the refusal
-interval-answered : (sheet refusal least : ℕ) → interval_answered sheet (least_of refusal least) ≡ answer_of (or_else sheet refusal) least
-unfolding interval_answered least_of
-interval-answered sheet zero zero = ap (λ (r : ℕ). answer_of r 0) (sym (no-next sheet))
-interval-answered sheet zero (suc n) = rw (some n) (ap (λ (r : ℕ). answer_of r (suc n)) (sym (no-next sheet)))
-interval-answered sheet (suc n) least = rw (some n) (answered (or_else sheet (suc n)) 0 least (λ none. absurd (suc-ne-zero n (none_of sheet (suc n) none).1)))
+-- a value that was answered, as a number, and a refusal that was
+module _ {A : Type 0} (r : ℕ) (a : A) where
+  pub ok-number : {x : A} → Ok x ≡ said.answered r a → (f : A → ℕ) → answer_of 0 (f x) ≡ answer_of r (f a)
+  ok-number is f = ap (λ (x : A). answer_of 0 (f x)) (value_of r a is) ∙ ap (λ (k : ℕ). answer_of k (f a)) (sym (good_of r a is))
 
--- a good sheet's answers
-module _ (s : List ℕ) (reading : Reading) (e : reading ≡ read_answer s) (left : reading.refusal ≡ 0) where
-  pub good-table-read : table_refusal (table_of s) ≡ 0
-  good-table-read = table-good s (good-read s reading e left)
+  pub err-number : {e : Refusal} → Known r → Err e ≡ said.answered r a → (value : ℕ) → answer_of (said.number_of e) 0 ≡ answer_of r value
+  err-number known is value = ap (λ (k : ℕ). answer_of k 0) (told_number r a known is) ∙ answered r 0 value (λ fine. absurd (broken_of r a is fine))
 
--- the answers of a sheet that is read, refused or not
-module _ (s : List ℕ) (reading : Reading) (e : reading ≡ read_answer s) where
-  pub interval-is : (interval : Interval) → interval ≡ interval_answer reading.table → interval_answered reading.refusal interval ≡ interval_number s
-  unfolding interval_answer interval_number
-  interval-is interval given =
-      ap (interval_answered reading.refusal) given ∙ interval-answered reading.refusal (table_refusal reading.table) (least_interval reading.table)
-      ∙ asked reading.refusal _ _ _ (λ left.
-      ap (λ (t : Table). answer_of (table_refusal t) (least_interval t)) (table-read s reading e left)
-      ∙ ap (λ (r : ℕ). answer_of r (least_interval (table_of s))) (good-table-read s reading e left ∙ sym (good-read s reading e left)))
-      (λ taken. sheet-refused s reading e taken _)
+-- an interval is the least one as a number
+interval-answered : (refusal least : ℕ) → refusal ≡ 0 → interval_from (least_told (least_of refusal least)) ≡ answer_of refusal least
+unfolding interval_from least_told least_of
+interval-answered refusal zero fine = simp fine
+interval-answered refusal (suc n) fine = simp (fine, some n)
+
+-- the least interval of a sheet that is read
+pub interval-is : (s : List ℕ) {table : Table} → Ok table ≡ said.answered (read_answer s).refusal (read_answer s).table → {interval : Result (Option ℕ) Refusal} → interval ≡ least_told (interval_answer table) → interval_from interval ≡ interval_number s
+unfolding interval_answer interval_number
+interval-is s {table} read given =
+    ap interval_from given ∙ interval-answered (table_refusal table) (least_interval table) (ap table_refusal (table-read s read) ∙ good-table-read s read)
+    ∙ ap (λ (t : Table). answer_of (table_refusal t) (least_interval t)) (table-read s read)
+    ∙ ap (λ (r : ℕ). answer_of r (least_interval (table_of s))) (good-table-read s read ∙ sym (good-read s read))
+
+-- what is asked of a sheet's bytes is refused with a number of the tables
+pub timed-known : (rule : Rule) (s : List ℕ) (place : ℕ) → Known (timed_in rule s place).refusal
+unfolding timed_in
+timed-known rule s place = sheet-place-known rule s place
+
+pub assessed-known : (rule : Rule) (s : List ℕ) → Known (assessed_in rule s).refusal
+assessed-known rule s = subst Known (sym (assessed-refusal rule s)) (sheet-rule-known rule s)
 
 -- the answers of a sheet that is asked for a place, or for its verdict, out of its bytes
 module _ (s : List ℕ) (place : ℕ) where

@@ -2,24 +2,32 @@
 use Prim.Native.Nat.{ℕ, suc, ◌+◌, ◌*◌, ◌≤◌, ◌<◌}
 use mathlib.Core.Path.{◌≡◌, refl, sym, ap, ap₂, ◌∙◌}
 use mathlib.Core.List.{List, ◌∷◌, ◌++◌}
+use mathlib.Core.Logic.{inl}
 use native.Mathlib.Nat.{zero-add}
 use native.Mathlib.Numerals.{one-add}
 use native.Mathlib.Omega.{arith}
 use borrow.Author.Tests.{ne_eqb, le-ltb, lt-ltb}
+use lib.Dec.{ltb}
 use lib.IntN.{ℤ}
 use lib.ListN.{length, take, drop, replicate, get_or-append, length-append}
 use lib.Seq.{sets, sets-eq, take_at, take_all}
+use Rattle.std.specs.Prelude.{Ok, Err}
+use Rattle.places.specs.declared.refusal.Refusal.{Refusal}
+use Rattle.places.specs.Answered as said
+use Rattle.places.proofs.Answered.{good_of, value_of, broken_of, told_number, known_else, known_if}
 use Rattle.places.proofs.Agree.{joined-agree}
 use Rattle.places.proofs.Joined.{length-joined}
 use Rattle.places.proofs.Refusals.{first_of, next-of}
 use Rattle.sheet.specs.Rules.{sheet_refusal}
+use Rattle.sheet.proofs.Told.{sheet-known}
 use Rattle.sheet.proofs.Spelled.{Bytes}
 use Rattle.mend.specs.declared.Change.{Change}
 use Rattle.mend.specs.declared.Changes.{Changes}
-use Rattle.mend.specs.declared.Mending.{Mending}
+use Rattle.mend.specs.declared.Mending as told
+use Rattle.mend.specs.Told.{Mending}
 use Rattle.mend.specs.Mended.{mended}
 use Rattle.mend.specs.Changes.{no_change, changes_of, held}
-use Rattle.mend.specs.Answers.{mend_refusal, mend_answer, mend_leaves}
+use Rattle.mend.specs.Answers.{mend_refusal, mend_answer, mending_told, mend_leaves}
 use Rattle.mend.proofs.Demands.{room-enough, changes-few}
 use Rattle.fidhaqooban.specs.Numbers.{answer_of, change_numbers, changes_from, changes_numbers}
 use Rattle.fidhaqooban.specs.Answers.{list_size, mending_refusal, mend_number, mend_left, mend_listed}
@@ -44,6 +52,18 @@ pub record Made (s : List ℕ) : Type 0 where
   pub is : mending ≡ mend_answer s own
   pub leaves : left ≡ mend_leaves s own
 
+-- such is what was answered
+abbrev pub made-so : (s : List ℕ) {given : told.Mending} → Ok given ≡ said.answered (mend_answer s own).refusal (mending_told (mend_answer s own)) → (left : List ℕ) → left ≡ mend_leaves s own → Made s
+made-so s {given} answer left leaves =
+    let fine = good_of _ _ answer in
+    let is = value_of _ _ answer in
+    record {
+      mending = record { refusal = 0; written = given.written; changes = given.changes };
+      left = left;
+      is = λ i. record { refusal = sym fine i; written = (is i).written; changes = (is i).changes };
+      leaves = leaves;
+    }
+
 module _ (s out changes : List ℕ) where
   -- the answer of a call and its two outputs
   abbrev pub Told : ℤ → List ℕ → List ℕ → Type 0
@@ -62,7 +82,7 @@ module _ (s out changes : List ℕ) where
     unfolding mend_answer
     refusal_is = ap (λ (x : Mending). x.refusal) m.is ∙ room-enough s own own_room
 
-    pub sheet-told : (m.mending.refusal ≡ 0 → ⊥) → Told (answer_of m.mending.refusal 0) out changes
+    sheet-told : (m.mending.refusal ≡ 0 → ⊥) → Told (answer_of m.mending.refusal 0) out changes
     unfolding mending_refusal
     sheet-told broken = refused-told m.mending.refusal broken (refusal_is ∙ sym (first_of (sheet_refusal (mended s)) _ (λ none. broken (refusal_is ∙ none))))
 
@@ -135,3 +155,12 @@ module _ (s out changes : List ℕ) where
                 is-put ∙ ap (λ (l : List ℕ). take (length l) l ++ drop (length l) out) copied ∙ ap (λ (l : List ℕ). l ++ drop (length (mended s)) out) (take_all (length (mended s)) (mended s) (omega arith)) ∙ simp fits,
                 ap (sets changes 0) numbers-is ∙ sets-eq numbers changes 0 list-fits ∙ ap (λ (n : ℕ). numbers ++ drop n changes) (zero-add (length numbers) ∙ size) ∙ simp fits,
               )
+
+-- a sheet that is not mended
+pub not-mended : (s out changes : List ℕ) {e : Refusal} → Err e ≡ said.answered (mend_answer s own).refusal (mending_told (mend_answer s own)) → Told s out changes (answer_of (said.number_of e) 0) out changes
+unfolding mend_answer mend_refusal
+not-mended s out changes {e} answer =
+    let known = known_else (sheet-known (mended s)) (known_if (ltb (length own) (length (mended s))) 11 (inl (omega arith, omega arith))) in
+    let is : said.number_of e ≡ mend_refusal s own = told_number (mend_refusal s own) _ known answer in
+    let told = sheet-told s out changes (record { mending = mend_answer s own; left = mend_leaves s own; is = refl; leaves = refl }) (broken_of (mend_refusal s own) _ answer) in
+    (ap (λ (r : ℕ). answer_of r 0) is ∙ told.0, told.1, told.2)

@@ -3,41 +3,45 @@ use Prim.Native.Nat.{ℕ, zero, suc, ◌*◌, ◌≤◌}
 use mathlib.Core.Path.{◌≡◌, refl, sym, ap, ◌∙◌, subst}
 use mathlib.Core.Bool.{Bool, true, false, cond}
 use mathlib.Core.List.{List, [], ◌∷◌}
+use mathlib.Core.Logic.{inl, inr}
 use native.Mathlib.Decide.{ℕ_discrete}
 use native.Mathlib.Nat.{suc-ne-zero}
 use native.Mathlib.Omega.{arith}
 use borrow.Author.Tests.{ne_eqb, ltb-false}
 use lib.Dec.{eqb, ltb}
 use lib.ListN.{length, drop}
+use Rattle.std.specs.Prelude.{Result, Ok, Err, IfOk, ◌^◌, ◌<◌}
+use Rattle.places.specs.declared.refusal.Refusal.{Refusal}
 use Rattle.places.specs.Refusals.{or_else}
-use Rattle.places.proofs.Refusals.{first_of, none_of, next-of}
-use Rattle.sheet.specs.declared.Reading.{Reading}
+use Rattle.places.specs.Answered as said
+use Rattle.places.specs.Answered.{IsNumber}
+use Rattle.places.proofs.Refusals.{none_of, next-of}
+use Rattle.places.proofs.Answered.{value_of, number_numbered, Known, known_else, known_if, known_unless}
 use Rattle.sheet.specs.declared.Table.{Table}
-use Rattle.sheet.specs.Layout.{table_of, no_table}
+use Rattle.sheet.specs.Layout.{table_of}
 use Rattle.sheet.specs.Rules.{sheet_refusal}
 use Rattle.sheet.specs.Answers.{read_answer}
-use Rattle.sheet.proofs.Cases.{good-table}
 use Rattle.analysis.specs.declared.Rule.{Rule}
 use Rattle.analysis.specs.declared.Rule.TheVariants.{Assured}
-use Rattle.analysis.specs.declared.Timed.{Timed}
+use Rattle.analysis.specs.Told.{Timed}
 use Rattle.analysis.specs.ByRule.{meets, rule_refusal, place_refusal as asked_refusal, time_by, entry_by}
 use Rattle.analysis.specs.BySheet.{sheet_place_refusal, timed_in}
-use Rattle.analysis.proofs.Laws.ByRule.{rule-good}
 use Rattle.analysis.specs.Common.Entries.{entry_from, own_tasks}
 use Rattle.assured.specs.Answers.{assured_refusal, place_refusal, entry_of}
 use Rattle.choices.specs.declared.Walk.{Walk}
-use Rattle.choices.specs.declared.Arrival.{Arrival}
-use Rattle.choices.specs.declared.Arrival.TheVariants.{Found, End, Refused}
-use Rattle.choices.specs.declared.Stepped.{Stepped}
-use Rattle.choices.specs.declared.Listing.{Listing}
+use Rattle.choices.specs.Told.Arrival.{Found, End, Refused}
+use Rattle.choices.specs.Told.{Stepped, Arrival, arrived, shown}
+use Rattle.choices.specs.declared.Stepped as steps
+use Rattle.choices.specs.declared.Arrival.TheVariants.{Found as Came}
 use Rattle.choices.specs.Choices.{chosen}
 use Rattle.choices.specs.Order.{after_of}
-use Rattle.choices.specs.Answers.{start_walk, arrive_at, step_from, room_refusal, list_from, leaves_from, start_refusal, step_by, refusal_by, list_by, leaves_by}
+use Rattle.choices.specs.Answers.{start_walk, arrive_at, step_from, room_refusal, list_from, start_refusal, step_by, refusal_by, list_by, leaves_by}
 use Rattle.choices.specs.Stepping.{IsSmall}
 use Rattle.choices.proofs.Listed.{next-listed}
-use Rattle.fidhaqooban.specs.Numbers.{answer_of, time_of, entries_of, choice_of}
+use Rattle.analysis.proofs.Laws.BySheet.{rule-known}
+use Rattle.fidhaqooban.specs.Numbers.{answer_of, number_from, arrival_from, time_of, entries_of, choice_of}
 use Rattle.fidhaqooban.specs.Answers.{first_number, arrival_answered, next_by, listed_by, listed_left, assured_number}
-use Rattle.fidhaqooban.proofs.Answered.{some, answered, no-next, asked, good-read, table-read, broken-read, no-table-read, first-refused, good-table-read}
+use Rattle.fidhaqooban.proofs.Answered.{some, answered, no-next, good-read, table-read, good-table-read, broken-read, first-refused, number-answered}
 
 -- the answer of a step by its refusal and by the choices after the walk
 abbrev stepped_of : ℕ → Walk → List (List ℕ) → Stepped
@@ -49,13 +53,6 @@ unfolding arrival_answered arrive_at first_number
 step-answered sheet zero w [] = ap (λ (r : ℕ). answer_of r 0) (sym (no-next sheet))
 step-answered sheet zero w (choice ∷ later) = ap (λ (r : ℕ). answer_of r (choice_of choice)) (sym (no-next sheet))
 step-answered sheet (suc n) w later = rw (some n) (answered (or_else sheet (suc n)) 0 (first_number later) (λ none. absurd (suc-ne-zero n (none_of sheet (suc n) none).1)))
-
--- a refused sheet's number, whatever a step comes to
-pub stopped : (sheet : ℕ) → (sheet ≡ 0 → ⊥) → (arrival : Arrival) (entries : List ℕ) → answer_of sheet 0 ≡ arrival_answered sheet arrival entries
-unfolding arrival_answered
-stopped sheet broken (Refused refusal) entries = ap (λ (r : ℕ). answer_of r 0) (sym (first_of sheet refusal broken))
-stopped sheet broken Found entries = answered sheet 0 (choice_of entries) (λ none. absurd (broken none))
-stopped sheet broken End entries = refl
 
 -- a step that finds a choice comes to the first one
 step-found : (refusal : ℕ) (w : Walk) (later : List (List ℕ)) → (stepped_of refusal w later).arrival ≡ Found → later ≡ (stepped_of refusal w later).walk.entries ∷ drop 1 later
@@ -77,60 +74,91 @@ room-kept refusal list out = go (ℕ_discrete (or_else refusal (cond (ltb (lengt
         long true is z = absurd (omega arith)
         long false is z = ltb-false (length out) (4 * length list) is
 
--- a list that is refused before leaves the output as it was
-kept : (refusal : ℕ) (list : List (List ℕ)) (out : List ℕ) → (refusal ≡ 0 → ⊥) → leaves_from (room_refusal refusal list out) list out ≡ out
-unfolding leaves_from room_refusal
-kept refusal list out broken = simp (ne_eqb (or_else refusal (cond (ltb (length out) (4 * length list)) 11 0)) 0 (λ none. broken (none_of refusal _ none).0))
+-- a refusal that is one is a number of the tables
+tabled : {r : ℕ} → Known r → (r ≡ 0 → ⊥) → IsNumber r
+tabled (inl none) broken = absurd (broken none)
+tabled (inr some) broken = some
+
+-- the same of what the code shows of a step
+arrival-told : (refusal : ℕ) (w : Walk) (later : List (List ℕ)) → Known refusal
+    → arrival_from (shown (stepped_of refusal w later)).arrival (shown (stepped_of refusal w later)).walk.entries ≡ arrival_answered 0 (stepped_of refusal w later).arrival (stepped_of refusal w later).walk.entries
+unfolding arrival_from arrival_answered arrive_at
+arrival-told refusal w later known = go (ℕ_discrete refusal 0) later
+  where
+    go : Dec (refusal ≡ 0) → (later : List (List ℕ))
+        → arrival_from (shown (stepped_of refusal w later)).arrival (shown (stepped_of refusal w later)).walk.entries ≡ arrival_answered 0 (stepped_of refusal w later).arrival (stepped_of refusal w later).walk.entries
+    go (yes fine) [] = simp fine
+    go (yes fine) (choice ∷ later) = simp fine
+    go (no broken) later = rw (ne_eqb refusal 0 broken) (ap (λ (r : ℕ). answer_of r 0) (number_numbered refusal (tabled known broken) ∙ sym (next-of refusal refl)))
+
+-- and it is found exactly where the code says so
+found-told : (a : Arrival) → arrived a ≡ Came → a ≡ Found
+found-told Found e = refl
+found-told End e = cc
+found-told (Refused refusal) e = cc
+
+start-known : (rule : Rule) (t : Table) (start : List ℕ) → Known (start_refusal rule t start)
+unfolding start_refusal
+start-known rule t start = known_else (rule-known rule t) (known_unless _ 13 (inl (omega arith, omega arith)))
+
+list-known : (rule : Rule) (t : Table) (out : List ℕ) → Known (refusal_by rule t out)
+unfolding refusal_by room_refusal
+list-known rule t out = known_else (rule-known rule t) (known_if _ 11 (inl (omega arith, omega arith)))
 
 -- the answers of a sheet that is read, of the choices that hold by a rule
-module _ (rule : Rule) (s : List ℕ) (reading : Reading) (e : reading ≡ read_answer s) where
+module _ (rule : Rule) (s : List ℕ) {table : Table} (read : Ok table ≡ said.answered (read_answer s).refusal (read_answer s).table) where
   -- the choice that a good sheet's step comes to has room in four bits for each entry
-  pub step_small : reading.refusal ≡ 0 → (w : Walk) (stepped : Stepped) → stepped ≡ step_by rule reading.table w → stepped.arrival ≡ Found → IsSmall stepped.walk.entries
+  pub step_small : (w : Walk) (stepped : steps.Stepped) → stepped ≡ shown (step_by rule table w) → stepped.arrival ≡ Came → IsSmall stepped.walk.entries
   unfolding step_by step_from
-  step_small left w stepped given came =
-      let step : stepped ≡ step_by rule (table_of s) w = given ∙ ap (λ (t : Table). step_by rule t w) (table-read s reading e left) in
-      let first = step-found (start_refusal rule (table_of s) w.entries) w (after_of w.entries (chosen (meets rule) (table_of s))) (ap (λ (r : Stepped). r.arrival) (sym step) ∙ came) in
-      subst (λ (r : Stepped). IsSmall r.walk.entries) (sym step) (next-listed (meets rule) (table_of s) (good-table-read s reading e left) w.entries _ _ first).narrow
+  step_small w stepped given came =
+      let step : stepped ≡ shown (step_by rule (table_of s) w) = given ∙ ap (λ (t : Table). shown (step_by rule t w)) (table-read s read) in
+      let first = step-found (start_refusal rule (table_of s) w.entries) w (after_of w.entries (chosen (meets rule) (table_of s))) (found-told _ (ap (λ (r : steps.Stepped). r.arrival) (sym step) ∙ came)) in
+      subst (λ (r : steps.Stepped). IsSmall r.walk.entries) (sym step) (next-listed (meets rule) (table_of s) (good-table-read s read) w.entries _ _ first).narrow
 
   -- a step
-  pub next-is : (after : ℕ) (entries : List ℕ) (stepped : Stepped) → entries ≡ entries_of after → stepped ≡ step_by rule reading.table (record { entries = entries })
-      → arrival_answered reading.refusal stepped.arrival stepped.walk.entries ≡ next_by rule s after
+  pub next-is : (after : ℕ) (entries : List ℕ) (stepped : steps.Stepped) → entries ≡ entries_of after → stepped ≡ shown (step_by rule table (record { entries = entries }))
+      → arrival_from stepped.arrival stepped.walk.entries ≡ next_by rule s after
   unfolding step_by step_from next_by
   next-is after entries stepped from given =
-      ap (λ (r : Stepped). arrival_answered reading.refusal r.arrival r.walk.entries) (given ∙ ap (λ (l : List ℕ). step_by rule reading.table (record { entries = l })) from)
-      ∙ step-answered reading.refusal (start_refusal rule reading.table (entries_of after)) (record { entries = entries_of after }) (after_of (entries_of after) (chosen (meets rule) reading.table))
-      ∙ asked reading.refusal _ _ _ (λ left.
-      ap (λ (t : Table). answer_of (start_refusal rule t (entries_of after)) (first_number (after_of (entries_of after) (chosen (meets rule) t)))) (table-read s reading e left)
-      ∙ ap (λ (r : ℕ). answer_of r (first_number (after_of (entries_of after) (chosen (meets rule) (table_of s))))) (sym (next-of _ (good-read s reading e left))))
-      (λ taken. first-refused s reading e taken _ _)
+      ap (λ (r : steps.Stepped). arrival_from r.arrival r.walk.entries) (given ∙ ap (λ (l : List ℕ). shown (step_by rule table (record { entries = l }))) from)
+      ∙ arrival-told (start_refusal rule table (entries_of after)) (record { entries = entries_of after }) (after_of (entries_of after) (chosen (meets rule) table)) (start-known rule table (entries_of after))
+      ∙ step-answered 0 (start_refusal rule table (entries_of after)) (record { entries = entries_of after }) (after_of (entries_of after) (chosen (meets rule) table))
+      ∙ ap (λ (r : ℕ). answer_of r (first_number (after_of (entries_of after) (chosen (meets rule) table)))) (next-of (start_refusal rule table (entries_of after)) refl)
+      ∙ ap (λ (t : Table). answer_of (start_refusal rule t (entries_of after)) (first_number (after_of (entries_of after) (chosen (meets rule) t)))) (table-read s read)
+      ∙ ap (λ (r : ℕ). answer_of r (first_number (after_of (entries_of after) (chosen (meets rule) (table_of s))))) (sym (next-of _ (good-read s read)))
 
   -- a list
   module _ (out : List ℕ) where
-    module _ (listing : Listing) (given : listing ≡ list_by rule reading.table out) where
+    module _ {told : Result ℕ Refusal} (given : told ≡ said.answered (list_by rule table out).refusal (list_by rule table out).entries) where
       -- four bytes to each choice that is listed
-      pub list-room : 4 * listing.entries ≤ length out
+      pub list-room : length out < 2 ^ 63 → IfOk told (λ entries. entries < 2 ^ 63)
       unfolding list_by refusal_by
-      list-room = rw given (room-kept (rule_refusal rule reading.table) (chosen (meets rule) reading.table) out)
+      list-room few = go told given
+        where
+          go : (x : Result ℕ Refusal) → x ≡ said.answered (list_by rule table out).refusal (list_by rule table out).entries → IfOk x (λ entries. entries < 2 ^ 63)
+          go (Ok entries) is = omega (arith, value_of _ _ is, room-kept (rule_refusal rule table) (chosen (meets rule) table) out, few)
+          go (Err e) is = tt
 
-      pub list-is : answer_of (or_else reading.refusal listing.refusal) listing.entries ≡ listed_by rule s out
+      pub list-is : number_from told ≡ listed_by rule s out
       unfolding list_by list_from listed_by
       list-is =
-          asked reading.refusal _ _ _ (λ left.
-          ap (λ (l : Listing). answer_of l.refusal l.entries) (given ∙ ap (λ (t : Table). list_by rule t out) (table-read s reading e left))
-          ∙ answered (refusal_by rule (table_of s) out) _ _ (λ fine. simp fine)
-          ∙ ap (λ (r : ℕ). answer_of r (length (chosen (meets rule) (table_of s)))) (sym (next-of _ (good-read s reading e left))))
-          (λ taken. first-refused s reading e taken _ _)
+          number-answered (list-known rule table out) told given (λ fine. simp fine)
+          ∙ ap (λ (t : Table). answer_of (refusal_by rule t out) (length (chosen (meets rule) t))) (table-read s read)
+          ∙ ap (λ (r : ℕ). answer_of r (length (chosen (meets rule) (table_of s)))) (sym (next-of _ (good-read s read)))
 
-    pub list-leaves : leaves_by rule reading.table out ≡ listed_left rule s out
+    pub list-leaves : leaves_by rule table out ≡ listed_left rule s out
     unfolding leaves_by refusal_by listed_left
-    list-leaves = go (ℕ_discrete reading.refusal 0)
-      where
-        go : Dec (reading.refusal ≡ 0) → leaves_by rule reading.table out ≡ listed_left rule s out
-        go (yes left) = ap (λ (t : Table). leaves_by rule t out) (table-read s reading e left) ∙ simp (good-read s reading e left)
-        go (no taken) =
-            ap (λ (t : Table). leaves_by rule t out) (no-table-read s reading e taken)
-            ∙ kept (rule_refusal rule no_table) (chosen (meets rule) no_table) out (λ none. omega (arith, (good-table no_table (rule-good rule no_table none)).count.0))
-            ∙ simp (ne_eqb (sheet_refusal s) 0 (broken-read s reading e taken))
+    list-leaves = ap (λ (t : Table). leaves_by rule t out) (table-read s read) ∙ simp (good-read s read)
+
+-- and those of a sheet that is refused
+module _ (rule : Rule) (s : List ℕ) {e : Refusal} (read : Err e ≡ said.answered (read_answer s).refusal (read_answer s).table) where
+  pub next-refused : (after : ℕ) → answer_of (said.number_of e) 0 ≡ next_by rule s after
+  unfolding next_by
+  next-refused after = first-refused s read _ _
+
+  pub list-refused : (out : List ℕ) → (answer_of (said.number_of e) 0 ≡ listed_by rule s out) × (out ≡ listed_left rule s out)
+  unfolding listed_by listed_left
+  list-refused out = (first-refused s read _ _, simp (ne_eqb (sheet_refusal s) 0 (broken-read s read)))
 
 -- the assured time of a place, out of a sheet's bytes
 pub assured-is : (s : List ℕ) (place : ℕ) (timed : Timed) → timed ≡ timed_in Assured s place → answer_of timed.refusal (time_of timed.entry.outcome) ≡ assured_number s place

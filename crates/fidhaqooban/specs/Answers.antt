@@ -8,12 +8,12 @@ use Rattle.sheet.specs.Answers.{write_refusal, write_leaves, rewrite_refusal, re
 use Rattle.analysis.specs.Published.Response.{passes}
 use Rattle.analysis.specs.Published.Answers.{entry_of, least_interval}
 use Rattle.analysis.specs.Common.Entries.{own_tasks}
-use Rattle.analysis.specs.declared.Interval.{Interval}
-use Rattle.analysis.specs.declared.Interval.TheVariants.{Refused, Least, Nothing}
+use Rattle.analysis.specs.Told.{Interval}
+use Rattle.analysis.specs.Told.Interval.{Refused, Least, Nothing}
 use Rattle.analysis.specs.declared.Rule.{Rule}
 use Rattle.analysis.specs.ByRule.{meets}
-use Rattle.choices.specs.declared.Arrival.{Arrival}
-use Rattle.choices.specs.declared.Arrival.TheVariants.{Found, End, Refused as Stopped}
+use Rattle.choices.specs.Told.{Arrival}
+use Rattle.choices.specs.Told.Arrival.{Found, End, Refused as Stopped}
 use Rattle.choices.specs.Choices.{chosen, passing_of}
 use Rattle.choices.specs.Order.{after_of}
 use Rattle.choices.specs.Answers.{walk_refusal, list_refusal, list_leaves, start_refusal, refusal_by, leaves_by}

@@ -1,5 +1,7 @@
 -- Tables, choices, times, counts, changes and answers as the numbers that pass between C and the desk.
-use Rattle.std.specs.Prelude.{ℕ, ◌+◌, ◌*◌, min, cond, List, [], ◌∷◌, eqb, ℤ, pos, neg_ℤ, length, get_or, set, take, replicate}
+use Rattle.std.specs.Prelude.{ℕ, ◌+◌, ◌*◌, min, cond, List, [], ◌∷◌, eqb, ℤ, pos, neg_ℤ, length, get_or, set, take, replicate, Option, Result, Ok, Err, unwrap_or}
+use Rattle.places.specs.declared.refusal.Refusal.{Refusal}
+use Rattle.places.specs.Answered.{number_of}
 use Rattle.places.specs.Places.{joined_below}
 use Rattle.sheet.specs.declared.Record.{Record}
 use Rattle.sheet.specs.declared.Table.{Table}
@@ -8,6 +10,8 @@ use Rattle.sheet.specs.Layout.{room}
 use Rattle.mend.specs.declared.Change.{Change}
 use Rattle.mend.specs.Changes.{field_number, no_change}
 use Rattle.replay.specs.declared.Counts.{Counts}
+use Rattle.choices.specs.declared.Arrival.{Arrival}
+use Rattle.choices.specs.declared.Arrival.TheVariants.{Found, End, Refused as Stopped}
 use Rattle.analysis.specs.declared.Outcome.{Outcome}
 use Rattle.analysis.specs.declared.Outcome.TheVariants.{OnTime, Late}
 use Rattle.analysis.specs.declared.Entry.{Entry}
@@ -17,6 +21,11 @@ use Rattle.analysis.specs.declared.Slack.TheVariants.{Figure, NoFigure}
 -- "A negative answer is minus the refusal number."
 unfoldable pub answer_of : ℕ → ℕ → ℤ
 answer_of refusal value = cond (eqb refusal 0) (pos value) (neg_ℤ (pos refusal))
+
+-- the same of an answer
+unfoldable pub number_from : Result ℕ Refusal → ℤ
+number_from (Ok value) = answer_of 0 value
+number_from (Err refusal) = answer_of (number_of refusal) 0
 
 -- "a number that is not there counts as 0"
 unfoldable pub number_at : List ℕ → ℕ → ℕ
@@ -93,3 +102,14 @@ changes_from list count = count ∷ joined_below (λ place. change_numbers (get_
 -- "how many changes there are, then four numbers each"
 abbrev pub changes_numbers : List Change → List ℕ
 changes_numbers changes = changes_from changes (length changes)
+
+-- a least interval that is answered: 0 where there is none
+unfoldable pub interval_from : Result (Option ℕ) Refusal → ℤ
+interval_from (Ok least) = answer_of 0 (unwrap_or least 0)
+interval_from (Err refusal) = answer_of (number_of refusal) 0
+
+-- what a step came to, beside the entries of the walk: 0 at the end
+unfoldable pub arrival_from : Arrival → List ℕ → ℤ
+arrival_from (Stopped refusal) entries = answer_of (number_of refusal) 0
+arrival_from Found entries = answer_of 0 (choice_of entries)
+arrival_from End entries = answer_of 0 0

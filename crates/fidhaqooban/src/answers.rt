@@ -1,13 +1,13 @@
 // Answers as the numbers of C: refusals, times, intervals, choices.
-ghost use Rattle.std.specs.Prelude.{◌≡◌, ◌<◌, ◌^◌};
-ghost use Rattle.places.specs.Refusals.{or_else};
+ghost use Rattle.std.specs.Prelude.{◌≡◌, ◌<◌, ◌^◌, IfOk};
+ghost use Rattle.places.specs.Answered.{number_of};
 ghost use Rattle.choices.specs.declared.Arrival.TheVariants.{Found};
 ghost use Rattle.choices.specs.Stepping.{IsSmall};
-ghost use Rattle.fidhaqooban.specs.Answers.{interval_answered, arrival_answered};
-ghost use Rattle.fidhaqooban.specs.Numbers.{answer_of, time_of, choice_of};
+ghost use Rattle.fidhaqooban.specs.Numbers.{answer_of, number_from, interval_from, arrival_from, time_of, choice_of};
 
-use analysis::{Interval, Outcome};
+use analysis::Outcome;
 use choices::{Arrival, Stepped};
+use places::refusal::Refusal;
 
 // A refusal with a minus sign, or the value.
 pub fn answer(refusal: u8, value: usize) -> i64
@@ -20,11 +20,22 @@ pub fn answer(refusal: u8, value: usize) -> i64
     value as i64
 }
 
-// The refusal of a sheet, or else of what is asked of it.
-pub fn first(sheet: u8, asked: u8) -> u8
-    ensures { result ≡ or_else sheet asked }
+// A refusal's number with a minus sign.
+pub fn refused(refusal: Refusal) -> i64
+    ensures { result ≡ answer_of (number_of refusal) 0 }
 {
-    if sheet != 0 { sheet } else { asked }
+    answer(refusal.number(), 0)
+}
+
+// The value that was answered, or that of its refusal.
+pub fn number(answered: Result<usize, Refusal>) -> i64
+    requires { IfOk answered (λ value. value < 2 ^ 63) }
+    ensures { result ≡ number_from answered }
+{
+    match answered {
+        Ok(value) => answer(0, value),
+        Err(refusal) => refused(refusal),
+    }
 }
 
 // An outcome's time, 0 where it is late.
@@ -44,41 +55,30 @@ pub fn choice_of(entries: [u8; 8]) -> u32
     ensures { result ≡ choice_of entries }
 {
     let mut choice: u32 = 0;
-    let mut place: usize = 0;
-    while place < 8 {
+    for place in 0..8 {
         choice = choice * 16 + entries[place] as u32;
-        place += 1;
     }
     choice
 }
 
-// A least interval as a number, after the refusal of its sheet: 0 where there is none, or the refusal with a minus sign.
-pub fn interval_of(sheet: u8, interval: Interval) -> i64
-    ensures { result ≡ interval_answered sheet interval }
+// A least interval as a number: 0 where there is none, or the refusal with a minus sign.
+pub fn interval_of(interval: Result<Option<u16>, Refusal>) -> i64
+    ensures { result ≡ interval_from interval }
 {
     match interval {
-        Interval::Refused(refusal) => answer(first(sheet, refusal), 0),
-        Interval::Least(least) => answer(sheet, least as usize),
-        Interval::Nothing => answer(sheet, 0),
+        Ok(least) => answer(0, least.unwrap_or(0) as usize),
+        Err(refusal) => refused(refusal),
     }
 }
 
-// What a step comes to as a number, after the refusal of its sheet: the choice, 0 at the end, or the refusal with a minus sign.
-pub fn step_of(sheet: u8, stepped: Stepped) -> i64
-    requires { sheet ≡ 0 → stepped.arrival ≡ Found → IsSmall stepped.walk.entries }
-    ensures { result ≡ arrival_answered sheet stepped.arrival stepped.walk.entries }
+// What a step comes to as a number: the choice, 0 at the end, or the refusal with a minus sign.
+pub fn step_of(stepped: Stepped) -> i64
+    requires { stepped.arrival ≡ Found → IsSmall stepped.walk.entries }
+    ensures { result ≡ arrival_from stepped.arrival stepped.walk.entries }
 {
-    if sheet != 0 {
-        return answer(sheet, 0);
-    }
-    let arrival = stepped.arrival;
-    match arrival {
-        Arrival::Refused(refusal) => answer(refusal, 0),
-        Arrival::Found => {
-            let walk = stepped.walk;
-            let entries = walk.entries;
-            answer(0, choice_of(entries) as usize)
-        }
+    match stepped.arrival {
+        Arrival::Refused(refusal) => refused(refusal),
+        Arrival::Found => answer(0, choice_of(stepped.walk.entries) as usize),
         Arrival::End => answer(0, 0),
     }
 }

@@ -10,10 +10,13 @@ use choices::Walk;
 pub fn next_by(sheet: &[u8], after: u32, rule: Rule) -> i64
     ensures { result ≡ next_by rule sheet.now after }
 {
-    let reading = sheet::read(sheet);
+    let table = match sheet::read(sheet) {
+        Ok(table) => table,
+        Err(refusal) => return answers::refused(refusal),
+    };
     let entries = given::entries_of(after);
     let walk = Walk { entries };
-    answers::step_of(reading.refusal, walk.step_by(reading.table, rule))
+    answers::step_of(walk.step_by(table, rule))
 }
 
 // Writes every choice: how many.
@@ -21,8 +24,9 @@ pub fn list_by(sheet: &[u8], out: &mut [u8], rule: Rule) -> i64
     ensures answer { result ≡ listed_by rule sheet.now out.old }
     ensures left { out.new ≡ listed_left rule sheet.now out.old }
 {
-    let reading = sheet::read(sheet);
-    let listing = choices::list_by(reading.table, out, rule);
-    let refusal = answers::first(reading.refusal, listing.refusal);
-    answers::answer(refusal, listing.entries)
+    let table = match sheet::read(sheet) {
+        Ok(table) => table,
+        Err(refusal) => return answers::refused(refusal),
+    };
+    answers::number(choices::list_by(table, out, rule))
 }

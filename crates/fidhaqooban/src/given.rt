@@ -1,20 +1,16 @@
 // What is given as the numbers of C: tables and choices.
-ghost use Rattle.std.specs.Prelude.{◌≡◌, ◌≤◌, ◌<◌};
+ghost use Rattle.std.specs.Prelude.{◌≡◌, ◌≤◌, ◌<◌, slice_index_or};
 ghost use Rattle.sheet.specs.Layout.{count_of};
 ghost use Rattle.sheet.specs.Rules.{sheet_refusal};
-ghost use Rattle.fidhaqooban.specs.Numbers.{number_at, byte_of, given_record, table_from, given_table, entries_of};
+ghost use Rattle.fidhaqooban.specs.Numbers.{byte_of, given_record, table_from, given_table, entries_of};
 
 use sheet::{Record, Table};
 
-// The number at a place, 0 where there is none.
-fn number_at(numbers: &[u16], place: usize) -> u16
-    ensures { result ≡ number_at numbers.now place }
+// The number at a place, or another where there is none.
+pub fn number_at<T: Copy>(numbers: &[T], place: usize, none: T) -> T
+    ensures { result ≡ slice_index_or numbers.now place none }
 {
-    if place < numbers.len() {
-        numbers[place]
-    } else {
-        0
-    }
+    numbers.get(place).copied().unwrap_or(none)
 }
 
 // A number as a byte, 255 where it is larger.
@@ -31,12 +27,12 @@ fn record(numbers: &[u16], place: usize) -> Record
 {
     let start = 6 * place;
     Record {
-        cost: number_at(numbers, start),
-        backup: number_at(numbers, start + 1),
-        deadline: number_at(numbers, start + 2),
-        period: number_at(numbers, start + 3),
-        priority: byte(number_at(numbers, start + 4)),
-        fault_priority: byte(number_at(numbers, start + 5)),
+        cost: number_at(numbers, start, 0),
+        backup: number_at(numbers, start + 1, 0),
+        deadline: number_at(numbers, start + 2, 0),
+        period: number_at(numbers, start + 3, 0),
+        priority: byte(number_at(numbers, start + 4, 0)),
+        fault_priority: byte(number_at(numbers, start + 5, 0)),
     }
 }
 
@@ -45,10 +41,8 @@ fn table_of(count: u8, interval: u16, round: u16, share: u16, numbers: &[u16]) -
     ensures { result ≡ table_from count interval round share numbers.now }
 {
     let mut records = [record(numbers, 0); 8];
-    let mut place: usize = 1;
-    while place < 8 {
+    for place in 1..8 {
         records[place] = record(numbers, place);
-        place += 1;
     }
     Table {
         count,
@@ -76,8 +70,7 @@ pub fn count(sheet: &[u8]) -> usize
     ensures answer { result ≡ count_of sheet.now }
     ensures bounded { result ≤ 8 }
 {
-    let reading = sheet::read(sheet);
-    let table = reading.table;
+    let table = sheet::read(sheet).unwrap();
     table.count as usize
 }
 
@@ -87,9 +80,7 @@ pub fn entries_of(choice: u32) -> [u8; 8]
 {
     let mut entries = [0u8; 8];
     let mut rest = choice;
-    let mut place: usize = 8;
-    while 0 < place {
-        place -= 1;
+    for place in (0..8).rev() {
         entries[place] = (rest % 16) as u8;
         rest = rest / 16;
     }

@@ -1,6 +1,5 @@
 // The desk for firmware: its calls under the names and in the numbers of C. A refused call answers minus the refusal number.
-// Each function is thin: it reads the sheet, asks the crate that answers, and turns the answer into a number. The table of a refused sheet is
-// zeros, which every call refuses too and leaves an output for as it was; of the two refusals the sheet's is told.
+// Each function is thin: it reads the sheet, asks the crate that answers, and turns the answer into a number.
 #![tactic(auto)]
 
 ghost use Rattle.std.specs.Prelude.{◌≡◌};
@@ -9,8 +8,9 @@ ghost use Rattle.fidhaqooban.specs.Answers.{write_shared_number, write_shared_le
 ghost use Rattle.fidhaqooban.specs.Locking.{given_request, granting_of, lock_number, lock_left};
 
 use analysis::Rule;
-use cores::Fit;
+use cores::Placing;
 use locks::Request;
+use places::refusal;
 use replay::Checked;
 
 mod answers;
@@ -24,7 +24,7 @@ mod outputs;
 pub extern "C" fn fq_judge(sheet: &[u8]) -> u8
     ensures { result ≡ sheet_refusal sheet.now }
 {
-    sheet::judge(sheet)
+    refusal::told(sheet::judge(sheet))
 }
 
 // Writes the sheet of a count, an interval, a round, our share of it and six numbers for each record: how many bytes.
@@ -41,7 +41,7 @@ pub extern "C" fn fq_write_shared(
     ensures left { out.new ≡ write_shared_left count interval round share fields.now out.old }
 {
     let writing = sheet::write(given::table(count, interval, round, share, fields), out);
-    answers::answer(writing.refusal, writing.written)
+    answers::number(writing)
 }
 
 // The same for the whole processor.
@@ -60,7 +60,7 @@ pub extern "C" fn fq_rewrite(sheet: &[u8], out: &mut [u8]) -> i64
     ensures left { out.new ≡ rewrite_left sheet.now out.old }
 {
     let rewriting = sheet::rewrite(sheet, out);
-    answers::answer(rewriting.refusal, rewriting.written)
+    answers::number(rewriting)
 }
 
 // Where the nine bytes of the record at a place start.
@@ -69,7 +69,7 @@ pub extern "C" fn fq_record(sheet: &[u8], place: usize) -> i64
     ensures { result ≡ record_number sheet.now place }
 {
     let found = sheet::record_start(sheet, place);
-    answers::answer(found.refusal, found.start)
+    answers::number(found)
 }
 
 // The response time of the record at a place, 0 where it is late.
@@ -77,10 +77,10 @@ pub extern "C" fn fq_record(sheet: &[u8], place: usize) -> i64
 pub extern "C" fn fq_response(sheet: &[u8], place: usize) -> i64
     ensures { result ≡ response_number sheet.now place }
 {
-    let timed = analysis::time_in(sheet, place, Rule::Published);
-    let entry = timed.entry;
-    let outcome = entry.outcome;
-    answers::answer(timed.refusal, answers::time_of(outcome))
+    match analysis::time_in(sheet, place, Rule::Published) {
+        Ok(entry) => answers::answer(0, answers::time_of(entry.outcome)),
+        Err(refusal) => answers::refused(refusal),
+    }
 }
 
 // Puts the slack of the record at a place, the deadline less the response time, into the output: 1, or 0 where there is no figure.
@@ -89,16 +89,14 @@ pub extern "C" fn fq_slack(sheet: &[u8], place: usize, out: &mut [i32]) -> i64
     ensures answer { result ≡ slack_number sheet.now place out.old }
     ensures left { out.new ≡ slack_left sheet.now place out.old }
 {
-    let timed = analysis::time_in(sheet, place, Rule::Published);
-    if timed.refusal != 0 {
-        return answers::answer(timed.refusal, 0);
-    }
+    let entry = match analysis::time_in(sheet, place, Rule::Published) {
+        Ok(entry) => entry,
+        Err(refusal) => return answers::refused(refusal),
+    };
     if out.len() == 0 {
         return answers::answer(11, 0);
     }
-    let entry = timed.entry;
-    let slack = entry.slack;
-    answers::answer(0, outputs::put_figure(slack, out))
+    answers::answer(0, outputs::put_figure(entry.slack, out))
 }
 
 // 1 where the sheet passes, 0 where it does not.
@@ -106,8 +104,10 @@ pub extern "C" fn fq_slack(sheet: &[u8], place: usize, out: &mut [i32]) -> i64
 pub extern "C" fn fq_verdict(sheet: &[u8]) -> i64
     ensures { result ≡ verdict_number sheet.now }
 {
-    let assessment = analysis::assess_in(sheet, Rule::Published);
-    answers::answer(assessment.refusal, assessment.passes as usize)
+    match analysis::assess_in(sheet, Rule::Published) {
+        Ok(assessment) => answers::answer(0, assessment.passes as usize),
+        Err(refusal) => answers::refused(refusal),
+    }
 }
 
 // Puts each record's response time, whether its slack has a figure, and the slack into the output: 1 where the sheet passes, 0 where it does not.
@@ -116,17 +116,21 @@ pub extern "C" fn fq_times(sheet: &[u8], out: &mut [i32]) -> i64
     ensures answer { result ≡ times_number sheet.now out.old }
     ensures left { out.new ≡ times_left sheet.now out.old }
 {
-    let reading = sheet::read(sheet);
-    let table = reading.table;
+    let table = match sheet::read(sheet) {
+        Ok(table) => table,
+        Err(refusal) => return answers::refused(refusal),
+    };
     let count = table.count as usize;
     if out.len() < 3 * count {
         return answers::answer(11, 0);
     }
-    let assessed = analysis::assess(table);
-    let entries = assessed.entries;
-    outputs::put_entries(entries, count, out);
-    let refusal = answers::first(reading.refusal, assessed.refusal);
-    answers::answer(refusal, assessed.passes as usize)
+    match analysis::assess(table) {
+        Ok(assessed) => {
+            outputs::put_entries(assessed.entries, count, out);
+            answers::answer(0, assessed.passes as usize)
+        }
+        Err(refusal) => answers::refused(refusal),
+    }
 }
 
 // The least interval at which the sheet passes, 0 where there is none.
@@ -134,8 +138,10 @@ pub extern "C" fn fq_times(sheet: &[u8], out: &mut [i32]) -> i64
 pub extern "C" fn fq_least_interval(sheet: &[u8]) -> i64
     ensures { result ≡ interval_number sheet.now }
 {
-    let reading = sheet::read(sheet);
-    answers::interval_of(reading.refusal, analysis::least_interval(reading.table))
+    match sheet::read(sheet) {
+        Ok(table) => answers::interval_of(analysis::least_interval(table)),
+        Err(refusal) => answers::refused(refusal),
+    }
 }
 
 // The next passing choice after another, 0 at the end.
@@ -160,10 +166,10 @@ pub extern "C" fn fq_list(sheet: &[u8], out: &mut [u8]) -> i64
 pub extern "C" fn fq_assured_response(sheet: &[u8], place: usize) -> i64
     ensures { result ≡ assured_number sheet.now place }
 {
-    let timed = analysis::time_in(sheet, place, Rule::Assured);
-    let entry = timed.entry;
-    let outcome = entry.outcome;
-    answers::answer(timed.refusal, answers::time_of(outcome))
+    match analysis::time_in(sheet, place, Rule::Assured) {
+        Ok(entry) => answers::answer(0, answers::time_of(entry.outcome)),
+        Err(refusal) => answers::refused(refusal),
+    }
 }
 
 // The next assured choice after another, 0 at the end.
@@ -259,10 +265,10 @@ pub extern "C" fn fq_mend(sheet: &[u8], out: &mut [u8], changes: &mut [u64]) -> 
     ensures listed { changes.new ≡ mend_listed sheet.now out.old changes.old }
 {
     let mut longest = [0u8; 79];
-    let mending = mend::mend(sheet, &mut longest);
-    if mending.refusal != 0 {
-        return answers::answer(mending.refusal, 0);
-    }
+    let mending = match mend::mend(sheet, &mut longest) {
+        Ok(mending) => mending,
+        Err(refusal) => return answers::refused(refusal),
+    };
     let size = mending.written;
     if out.len() < size {
         return answers::answer(11, 0);
@@ -283,18 +289,18 @@ pub extern "C" fn fq_cores(sheet: &[u8], number: u8, out: &mut [u8]) -> i64
     ensures answer { result ≡ cores_number sheet.now number out.old }
     ensures left { out.new ≡ cores_left sheet.now number out.old }
 {
-    let placing = cores::place(sheet, number);
-    let fit = placing.fit;
-    match fit {
-        Fit::Refused(refusal) => answers::answer(refusal, 0),
-        Fit::FitsNone(first) => answers::answer(0, first as usize),
-        Fit::Everyone => {
-            let given = placing.cores;
+    let placing = match cores::place(sheet, number) {
+        Ok(placing) => placing,
+        Err(refusal) => return answers::refused(refusal),
+    };
+    match placing {
+        Placing::FitsNone(first) => answers::answer(0, first as usize),
+        Placing::Everyone(cores) => {
             let count = given::count(sheet);
             if out.len() < count {
                 return answers::answer(11, 0);
             }
-            outputs::put_cores(given, count, out);
+            outputs::put_cores(cores, count, out);
             answers::answer(0, 0)
         }
     }
@@ -306,5 +312,8 @@ pub extern "C" fn fq_release(in_use: &[u8], candidate: &[u8], protected_places: 
     ensures { result ≡ release_number in_use.now candidate.now protected_places }
 {
     let decision = release::decide(in_use, candidate, protected_places);
-    answers::answer(decision.refusal, decision.loads as usize)
+    match decision {
+        Ok(loads) => answers::answer(0, loads as usize),
+        Err(refusal) => answers::refused(refusal),
+    }
 }

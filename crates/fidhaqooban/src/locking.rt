@@ -1,31 +1,9 @@
 // Start tables and resources given as the numbers of C.
 ghost use Rattle.std.specs.Prelude.{◌≡◌, ◌<◌};
-ghost use Rattle.fidhaqooban.specs.Numbers.{number_at};
 ghost use Rattle.fidhaqooban.specs.Locking.{given_job, given_starts, given_resource, given_resources};
 
+use crate::given::number_at;
 use locks::{Job, Resource, Starts};
-
-// The number of 32 bits at a place, 0 where there is none.
-fn wide_at(numbers: &[u32], place: usize) -> u32
-    ensures { result ≡ number_at numbers.now place }
-{
-    if place < numbers.len() {
-        numbers[place]
-    } else {
-        0
-    }
-}
-
-// The byte at a place, 0 where there is none.
-fn byte_at(numbers: &[u8], place: usize) -> u8
-    ensures { result ≡ number_at numbers.now place }
-{
-    if place < numbers.len() {
-        numbers[place]
-    } else {
-        0
-    }
-}
 
 // The job at a place.
 fn job(numbers: &[u32], uses: &[u8], place: usize) -> Job
@@ -33,9 +11,9 @@ fn job(numbers: &[u32], uses: &[u8], place: usize) -> Job
     ensures { result ≡ given_job numbers.now uses.now place }
 {
     Job {
-        offset: wide_at(numbers, 2 * place),
-        length: wide_at(numbers, 2 * place + 1),
-        uses: byte_at(uses, place),
+        offset: number_at(numbers, 2 * place, 0),
+        length: number_at(numbers, 2 * place + 1, 0),
+        uses: number_at(uses, place, 0),
     }
 }
 
@@ -44,10 +22,8 @@ pub fn starts(period: u32, count: u8, numbers: &[u32], uses: &[u8]) -> Starts
     ensures { result ≡ given_starts period count numbers.now uses.now }
 {
     let mut jobs = [job(numbers, uses, 0); 8];
-    let mut place: usize = 1;
-    while place < 8 {
+    for place in 1..8 {
         jobs[place] = job(numbers, uses, place);
-        place += 1;
     }
     Starts {
         period,
@@ -62,8 +38,8 @@ fn resource(numbers: &[u8], number: usize) -> Resource
     ensures { result ≡ given_resource numbers.now number }
 {
     Resource {
-        users: byte_at(numbers, number),
-        holder: byte_at(numbers, 8 + number),
+        users: number_at(numbers, number, 0),
+        holder: number_at(numbers, 8 + number, 0),
     }
 }
 
@@ -72,10 +48,8 @@ pub fn resources(numbers: &[u8]) -> [Resource; 8]
     ensures { result ≡ given_resources numbers.now }
 {
     let mut resources = [resource(numbers, 0); 8];
-    let mut number: usize = 1;
-    while number < 8 {
+    for number in 1..8 {
         resources[number] = resource(numbers, number);
-        number += 1;
     }
     resources
 }

@@ -1,13 +1,13 @@
 // What is put into a lent output that has room: figures, entries, counts, changes, cores, margins.
-ghost use Rattle.std.specs.Prelude.{◌≡◌, ◌+◌, ◌*◌, ◌/◌, ◌%◌, ◌≤◌, pos, length, get_or, set, take, drop, ◌++◌};
+ghost use Rattle.std.specs.Prelude.{◌≡◌, ◌+◌, ◌*◌, ◌/◌, ◌%◌, ◌≤◌, length, get_or, set, take, drop, ◌++◌};
 ghost use Rattle.std.proofs.lemmas.List.Edits.{sets};
 ghost use Rattle.places.specs.Places.{filled_below};
 ghost use Rattle.analysis.specs.Common.Entries.{no_entry};
 ghost use Rattle.mend.specs.Changes.{field_number};
-ghost use Rattle.fidhaqooban.specs.Numbers.{time_of, figures_of, ticks_of, entry_number, figure_in, count_numbers, change_numbers, changes_from};
+ghost use Rattle.fidhaqooban.specs.Numbers.{figures_of, ticks_of, entry_number, figure_in, count_numbers, change_numbers, changes_from};
 
 use crate::answers;
-use analysis::{Entry, Outcome, Slack};
+use analysis::{Entry, Slack};
 use mend::{Change, Field};
 use replay::Counts;
 
@@ -27,16 +27,10 @@ pub fn put_figure(slack: Slack, out: &mut [i32]) -> usize
     }
 }
 
-// An outcome's time as a signed number.
-fn time_number(outcome: Outcome) -> i32
-    ensures { result ≡ pos (time_of outcome) }
-{
-    answers::time_of(outcome) as i32
-}
-
-// How many figures a slack has, as a signed number.
-fn figure_number(slack: Slack) -> i32
-    ensures { result ≡ pos (figures_of slack) }
+// How many figures a slack has.
+fn figures_of(slack: Slack) -> usize
+    ensures answer { result ≡ figures_of slack }
+    ensures bounded { result ≤ 1 }
 {
     match slack {
         Slack::Figure(_) => 1,
@@ -60,11 +54,11 @@ fn entry_number(entry: Entry, number: usize) -> i32
 {
     if number == 0 {
         let outcome = entry.outcome;
-        return time_number(outcome);
+        return answers::time_of(outcome) as i32;
     }
     let slack = entry.slack;
     if number == 1 {
-        return figure_number(slack);
+        return figures_of(slack) as i32;
     }
     ticks_of(slack)
 }
@@ -76,10 +70,8 @@ pub fn put_entries(entries: [Entry; 8], count: usize, out: &mut [i32])
     ensures { out.new ≡ filled_below (λ k. entry_number (get_or entries (k / 3) no_entry) (k % 3)) (3 * count) out.old }
 {
     let end = 3 * count;
-    let mut at: usize = 0;
-    while at < end {
+    for at in 0..end {
         out[at] = entry_number(entries[at / 3], at % 3);
-        at += 1;
     }
 }
 
@@ -88,13 +80,15 @@ pub fn put_counts(counts: Counts, out: &mut [u64])
     requires { 7 ≤ length out.old }
     ensures { out.new ≡ sets out.old 0 (count_numbers counts) }
 {
-    out[0] = counts.first_attempts;
-    out[1] = counts.backups;
-    out[2] = counts.idle;
-    out[3] = counts.released;
-    out[4] = counts.finished;
-    out[5] = counts.missed;
-    out[6] = counts.unfinished;
+    out[..7].copy_from_slice(&[
+        counts.first_attempts,
+        counts.backups,
+        counts.idle,
+        counts.released,
+        counts.finished,
+        counts.missed,
+        counts.unfinished,
+    ]);
 }
 
 // A field's number.
@@ -127,10 +121,8 @@ pub fn put_changes(list: [Change; 17], count: u8, out: &mut [u64])
     ensures { out.new ≡ sets out.old 0 (changes_from list count) }
 {
     out[0] = count as u64;
-    let mut place: usize = 0;
-    while place < count as usize {
+    for place in 0..count as usize {
         put_change(list[place], out, 1 + 4 * place);
-        place += 1;
     }
 }
 
@@ -140,11 +132,7 @@ pub fn put_cores(cores: [u8; 8], count: usize, out: &mut [u8])
     requires room { count ≤ length out.old }
     ensures { out.new ≡ take count cores ++ drop count out.old }
 {
-    let mut place: usize = 0;
-    while place < count {
-        out[place] = cores[place];
-        place += 1;
-    }
+    out[..count].copy_from_slice(&cores[..count]);
 }
 
 // Puts a margin.

@@ -1,7 +1,4 @@
 // Names of files: where a name leads over symbolic links, the folder that it has in it, and the names that are the system's.
-ghost use Rattle.std.specs.Io.{ReadsAtMost};
-ghost use Rattle.io.specs.Counts.{IsPrefixLen};
-
 use std::fs;
 use std::io::Error;
 use streams::{input, parts};
@@ -9,115 +6,102 @@ use streams::{input, parts};
 // Over how many links a name is followed, as the system does it.
 const LINKS: u8 = 40;
 
-// A name: its bytes with zeros after them, how many they are, and whether it may be a link.
+// A name that is put together: its bytes with zeros after them, and how many they are.
 #[derive(Clone, Copy)]
 pub struct Path {
-    pub bytes: [u8; 4096],
-    pub length: usize,
-    pub leads_on: bool,
+    bytes: [u8; 4096],
+    length: usize,
 }
 
-// Puts bytes into a buffer from a place on, where it has room for all of them: where they end, or the place itself.
-pub fn put(buffer: &mut [u8], at: usize, bytes: &[u8]) -> usize {
-    if buffer.len() < at {
-        return at;
+impl Path {
+    // No bytes.
+    pub fn empty() -> Path {
+        Path {
+            bytes: io::buffer(),
+            length: 0,
+        }
     }
-    if buffer.len() - at < bytes.len() {
-        return at;
-    }
-    let end = at + bytes.len();
-    buffer[at..end].copy_from_slice(bytes);
-    end
-}
 
-// Whether a name begins with some bytes.
-fn begins(name: &[u8], bytes: &[u8]) -> bool {
-    let length = parts::part(bytes.len(), name);
-    check::same(&name[..length], bytes)
+    // The bytes of the name.
+    pub fn name(&self) -> &[u8] {
+        &self.bytes[..parts::part(self.length, &self.bytes)]
+    }
+
+    // Puts bytes after those of the name, where there is room for all of them.
+    pub fn put(&mut self, more: &[u8]) {
+        let length = self.length;
+        let Some(room) = self.bytes.get_mut(length..) else {
+            return;
+        };
+        if let Some(place) = room.get_mut(..more.len()) {
+            place.copy_from_slice(more);
+            self.length += more.len();
+        }
+    }
 }
 
 // Whether a name is a device's or the system's own: what it leads to is written as it stands.
 pub fn is_the_systems(name: &[u8]) -> bool {
-    begins(name, b"/proc/") | (begins(name, b"/dev/") & !begins(name, b"/dev/shm/"))
+    name.starts_with(b"/proc/") || (name.starts_with(b"/dev/") && !name.starts_with(b"/dev/shm/"))
 }
 
 // Whether a name is one that the system has for standard output.
 pub fn is_output(name: &[u8]) -> bool {
-    check::same(name, b"/dev/stdout")
-        | check::same(name, b"/dev/fd/1")
-        | check::same(name, b"/proc/self/fd/1")
+    matches!(name, b"/dev/stdout" | b"/dev/fd/1" | b"/proc/self/fd/1")
 }
 
-// How many bytes of a name are those of its folder, which end at its last slash.
-pub fn folder(name: &[u8]) -> usize
-    ensures { IsPrefixLen result name.now }
-{
+// The part of a name that is its folder's, which ends at its last slash.
+pub fn folder(name: &[u8]) -> &[u8] {
     match name.iter().rposition(|byte| *byte == b'/') {
-        Some(place) => parts::part(place.saturating_add(1), name),
-        None => 0,
-    }
-}
-
-// The text of the link that a name is, at the start of a buffer: how long it is, or 0 where the name is none. A link whose text cannot be
-// had is an error, since what it leads to is not known.
-fn text(rt: HostRuntime, name: &[u8], buffer: &mut [u8]) -> Result<usize, Error>
-    ensures { ReadsAtMost result buffer.new }
-{
-    match fs::read_link(&rt, input::path(name)?) {
-        Ok(target) => {
-            let length = put(buffer, 0, target.as_str().as_bytes());
-            Ok(parts::part(length, buffer))
-        }
-        Err(error) => match error.raw_os_error() {
-            Some(_) => Ok(0),
-            None => Err(error),
-        },
+        Some(place) => &name[..=place],
+        None => &[],
     }
 }
 
 // A name that begins with a folder's, as a link's text is read.
 fn within(folder: &[u8], name: &[u8]) -> Path {
-    let mut bytes = io::buffer();
-    let middle = put(&mut bytes, 0, folder);
-    let length = put(&mut bytes, middle, name);
-    Path {
-        bytes,
-        length,
-        leads_on: true,
+    let mut path = Path::empty();
+    path.put(folder);
+    path.put(name);
+    path
+}
+
+// The text of the link that a name is, or none where the name is none. A link whose text cannot be had is an error, since what it leads to is
+// not known.
+fn text(rt: HostRuntime, name: &[u8]) -> Result<Option<Path>, Error> {
+    match fs::read_link(&rt, input::path(name)?) {
+        Ok(target) => Ok(Some(within(b"", target.as_str().as_bytes()))),
+        Err(error) => match error.raw_os_error() {
+            Some(_) => Ok(None),
+            None => Err(error),
+        },
     }
 }
 
-// How many bytes of a link's name stand before its text: those of its folder, or none where the text begins at the root.
-fn kept(name: &[u8], text: &[u8]) -> usize {
-    if begins(text, b"/") {
-        return 0;
+// The name that a link leads to, or none where the name is no link's or the system's.
+fn next(rt: HostRuntime, name: &[u8]) -> Result<Option<Path>, Error> {
+    let Some(target) = text(rt, name)? else {
+        return Ok(None);
+    };
+    let text = target.name();
+    if text.is_empty() || is_the_systems(name) {
+        return Ok(None);
     }
-    folder(name)
-}
-
-// The name that a link leads to, or the name itself where it is none.
-fn next(rt: HostRuntime, path: Path) -> Result<Path, Error> {
-    let bytes = path.bytes;
-    let length = parts::part(path.length, &bytes);
-    let mut target = io::buffer();
-    let count = text(rt, &bytes[..length], &mut target)?;
-    if (count == 0) | is_the_systems(&bytes[..length]) {
-        return Ok(Path {
-            bytes,
-            length,
-            leads_on: false,
-        });
-    }
-    let start = parts::part(kept(&bytes[..length], &target[..count]), &bytes);
-    Ok(within(&bytes[..start], &target[..count]))
+    let folder = if text.starts_with(b"/") {
+        b""
+    } else {
+        folder(name)
+    };
+    Ok(Some(within(folder, text)))
 }
 
 // The name that a name leads to.
 pub fn lead(rt: HostRuntime, name: &[u8]) -> Result<Path, Error> {
     let mut path = within(b"", name);
     for _ in 0..LINKS {
-        if path.leads_on {
-            path = next(rt, path)?;
+        match next(rt, path.name())? {
+            Some(further) => path = further,
+            None => break,
         }
     }
     Ok(path)

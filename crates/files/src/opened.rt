@@ -16,13 +16,6 @@ pub struct File {
     pub inode: u64,
 }
 
-// No file.
-pub const NONE: File = File {
-    mode: 0,
-    device: 0,
-    inode: 0,
-};
-
 // What is known of an opened input.
 fn learnt(rt: HostRuntime, opened: &Opened) -> Result<Metadata, Error> {
     match opened {
@@ -32,18 +25,16 @@ fn learnt(rt: HostRuntime, opened: &Opened) -> Result<Metadata, Error> {
 }
 
 // The file of which something is known, or none where nothing is told.
-pub(crate) fn known(told: Result<Metadata, Error>) -> File {
-    match told {
-        Ok(known) => File {
-            mode: known.mode(),
-            device: known.dev(),
-            inode: known.ino(),
-        },
-        Err(_) => NONE,
-    }
+pub(crate) fn known(told: Result<Metadata, Error>) -> Option<File> {
+    let known = told.ok()?;
+    Some(File {
+        mode: known.mode(),
+        device: known.dev(),
+        inode: known.ino(),
+    })
 }
 
 // The file that was opened.
-pub fn identity(rt: HostRuntime, opened: &Opened) -> File {
+pub fn identity(rt: HostRuntime, opened: &Opened) -> Option<File> {
     known(learnt(rt, opened))
 }

@@ -1,7 +1,7 @@
 -- What the sheet of an input is. Assumes nothing.
 use Rattle.std.specs.Prelude.{ℕ, List, take}
-use Rattle.sheet.specs.declared.Reading.{Reading}
 use Rattle.sheet.specs.declared.Table.{Table}
+use Rattle.sheet.specs.Told.{Reading}
 use Rattle.sheet.specs.Answers.{read_answer, unjudged_answer}
 use Rattle.streams.specs.Inputs.{part_of}
 use Rattle.intake.specs.declared.sheets.Given.{Given}

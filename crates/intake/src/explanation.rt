@@ -5,7 +5,7 @@ ghost use Rattle.sheet.specs.Rules.{broken_place};
 use sheet::Table;
 use streams::descriptors::STDERR_FILENO;
 
-// Writes a part of the line.
+// Writes a part of the line. Parts are written by themselves, since what is quoted of an input need not be text.
 pub fn say(words: &[u8]) {
     io::write_all(STDERR_FILENO, words);
 }
@@ -51,7 +51,10 @@ fn say_other_rule(refusal: u8) {
 fn number(table: Table) -> u64
     ensures { result ≡ broken_place table + 1 }
 {
-    sheet::judge_table_at(table).place as u64 + 1
+    match sheet::judge_table_at(table) {
+        Ok(()) => 1,
+        Err(broken) => broken.place as u64 + 1,
+    }
 }
 
 // Prints the sentence of a rule.
@@ -76,19 +79,12 @@ pub fn print_of(called: &[u8], table: Table, refusal: u8) {
 
 // Whether a byte is one that texts have.
 fn is_of_text(byte: u8) -> bool {
-    ((32 <= byte) & (byte != 127)) | (byte == b'\t') | (byte == b'\n') | (byte == b'\r')
+    !byte.is_ascii_control() || matches!(byte, b'\t' | b'\n' | b'\r')
 }
 
 // Whether bytes look like lines of text.
 fn looks_like_text(bytes: &[u8]) -> bool {
-    let mut has_lines = false;
-    for byte in bytes {
-        if !is_of_text(*byte) {
-            return false;
-        }
-        has_lines = has_lines | (*byte == b'\n');
-    }
-    has_lines
+    bytes.iter().all(|byte| is_of_text(*byte)) && bytes.contains(&b'\n')
 }
 
 // Prints how a text is judged, where refused bytes look like one.

@@ -4,21 +4,20 @@
 #![tactic(auto)]
 
 use console::judging;
+use streams::endings::Ending;
 use streams::{endings, words};
 
 // Whether the argument at a place is the word `judge`.
-fn is_command(rt: HostRuntime, place: u8) -> bool {
-    let mut word = io::buffer();
-    let length = words::put(rt, place as usize, &mut word);
-    check::same(&word[..length], b"judge")
+fn is_command(rt: HostRuntime, place: u16) -> bool {
+    let mut buffer = io::buffer();
+    matches!(words::put(rt, place as usize, &mut buffer), b"judge")
 }
 
 // Judges the sheet that the argument at a place names, after the word `judge` or without it.
-fn run(rt: HostRuntime, first: u8, is_explained: bool) -> u8 {
-    if is_command(rt, first) {
-        return judging::run(rt, words::asked_from(rt, first as u16 + 1, is_explained));
-    }
-    judging::run(rt, words::asked_from(rt, first as u16, is_explained))
+fn run(rt: HostRuntime, place: u8, is_explained: bool) -> Ending {
+    let word = u16::from(place);
+    let first = if is_command(rt, word) { word + 1 } else { word };
+    judging::run(rt, words::asked_from(rt, first, is_explained))
 }
 
 fn main(rt: HostRuntime) {

@@ -1,14 +1,12 @@
 -- What a line is taken for, by its cells: nothing, a setting, the first line of the columns, a task's. Assumes nothing.
-use Prim.Native.Nat.{ℕ, zero, suc, ◌+◌, ◌≤◌, ◌<◌, min}
-use mathlib.Core.Path.{◌≡◌, refl, sym, ap, ap₂, ◌∙◌, subst}
-use mathlib.Core.Bool.{Bool, true, false, cond, not, ◌&&◌, ◌||◌}
+use Prim.Native.Nat.{ℕ, suc, ◌≤◌, ◌<◌, min}
+use mathlib.Core.Path.{◌≡◌, refl, sym, ap, ◌∙◌, subst}
+use mathlib.Core.Bool.{Bool, true, false, cond, ◌&&◌, ◌||◌}
 use mathlib.Core.List.{List, [], ◌∷◌}
 use native.Mathlib.Omega.{arith}
-use borrow.Author.Tests.{ne_eqb, eq-eqb, le-leb, lt-leb}
-use lib.Dec.{eqb, ltb, leb}
+use borrow.Author.Tests.{ne_eqb, eq-eqb, le-leb}
+use lib.Dec.{eqb}
 use lib.ListN.{length, get_or}
-use Rattle.cells.specs.declared.Cells.{Cells}
-use Rattle.cells.specs.declared.Number.{Number}
 use Rattle.cells.specs.Kinds.{loose}
 use Rattle.cells.specs.Cells.{part_of, cells_of, separator_of}
 use Rattle.cells.specs.Numbers.{number_of}

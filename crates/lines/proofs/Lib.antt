@@ -6,3 +6,4 @@ pub mod Early
 pub mod Moved
 pub mod Demands
 pub mod Unique
+pub mod Folds

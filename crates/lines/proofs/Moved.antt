@@ -1,10 +1,10 @@
 -- A line read under another number does the same but for that number. Assumes nothing.
-use Prim.Native.Nat.{ℕ, zero, suc, ◌+◌, ◌-◌, ◌≤◌, min}
+use Prim.Native.Nat.{ℕ, zero, suc, ◌+◌, ◌-◌, min}
 use mathlib.Core.Path.{◌≡◌, refl, sym, ap, ap₂, ◌∙◌, subst}
 use mathlib.Core.Bool.{Bool, true, false, cond, not, ◌&&◌, ◌||◌}
 use mathlib.Core.List.{List, [], ◌∷◌}
 use lib.Dec.{eqb, ltb, leb}
-use lib.ListN.{length, get_or, set}
+use lib.ListN.{length, set}
 use Rattle.cells.specs.declared.Cells.{Cells}
 use Rattle.cells.specs.declared.Number.{Number}
 use Rattle.cells.specs.declared.Name.{Name}
@@ -19,10 +19,9 @@ use Rattle.lines.specs.declared.Settings.{Settings}
 use Rattle.lines.specs.declared.Task.{Task}
 use Rattle.lines.specs.declared.Reading.{Reading}
 use Rattle.lines.specs.declared.Figures.{Figures}
-use Rattle.lines.specs.declared.Understood.{Understood}
 use Rattle.lines.specs.Troubles.{after, excerpt_of, task_at, no_trouble, start_of, end_of, cell_of, with_trouble, with_settings, with_layout, with_task, is_refused, fails, fails_at_end}
 use Rattle.lines.specs.Settings.{is_given, with_setting, begins_number, setting_with, setting_to, is_lone, is_named_line, are_first, is_open, is_pair, no_more, named_read, share_after, pair_read}
-use Rattle.lines.specs.Columns.{plain_layout, named_layout, has_column, with_column, column_as, column_to, missing_column, header_ended}
+use Rattle.lines.specs.Columns.{has_column, with_column, column_as, column_to, missing_column, header_ended}
 use Rattle.lines.specs.Tasks.{field_at, numbered, number_as, name_as, cell_as, cell_to, with_fault, with_deadline, filled_task, with_read, task_ended}
 use Rattle.lines.specs.Lines.{cell_read, cells_read, header_read, task_with, task_read, columns_read, first_read, early_read, words_read, line_read}
 use Rattle.lines.specs.Answers.{unmarked, content_taken, line_taken, figures_of, no_figures, ended_at, answered, answer_at}

@@ -1,8 +1,8 @@
 -- What is read of a text is fine, or what is not understood has a number from 30 to 44 with a line and a column of at least 1. Assumes nothing.
 use Prim.Native.Nat.{ℕ, zero, suc, ◌+◌, ◌≤◌, min}
 use mathlib.Core.Path.{◌≡◌, refl, sym, ap, ◌∙◌, subst}
-use mathlib.Core.Bool.{Bool, true, false, cond, not, ◌&&◌, ◌||◌}
-use mathlib.Core.List.{List, [], ◌∷◌}
+use mathlib.Core.Bool.{Bool, true, false, cond, ◌||◌}
+use mathlib.Core.List.{List}
 use native.Mathlib.Omega.{arith}
 use borrow.Author.Tests.{eq-eqb, ltb-false}
 use lib.Dec.{eqb, ltb, leb, lit≤}
@@ -16,7 +16,7 @@ use Rattle.cells.specs.Names.{setting_of, column_of, name_of}
 use Rattle.cells.proofs.Refusals.{Own, none, own, number-own, name-own}
 use Rattle.lines.specs.declared.Trouble.{Trouble}
 use Rattle.lines.specs.declared.Reading.{Reading}
-use Rattle.lines.specs.Troubles.{after, task_at, no_reading, start_of, end_of, cell_of, with_trouble, with_settings, with_layout, with_task, is_refused, fails, fails_at_end}
+use Rattle.lines.specs.Troubles.{after, task_at, start_of, end_of, cell_of, with_trouble, with_settings, with_layout, with_task, is_refused, fails, fails_at_end}
 use Rattle.lines.specs.Settings.{is_given, begins_number, setting_with, setting_to, is_lone, is_named_line, is_pair, no_more, named_read, share_after, pair_read}
 use Rattle.lines.specs.Columns.{plain_layout, named_layout, has_column, column_as, column_to, missing_column, header_ended}
 use Rattle.lines.specs.Tasks.{field_at, number_as, name_as, cell_as, cell_to, with_read, task_ended}

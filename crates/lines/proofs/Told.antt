@@ -1,23 +1,23 @@
 -- Lines that are understood, read from what their cells are: a task's and a header's. Assumes nothing.
-use Prim.Native.Nat.{ℕ, zero, suc, ◌+◌, ◌-◌, ◌≤◌, ◌<◌, min}
+use Prim.Native.Nat.{ℕ, zero, suc, ◌-◌, ◌≤◌, ◌<◌, min}
 use mathlib.Core.Path.{◌≡◌, refl, sym, ap, ap₂, ◌∙◌, subst}
-use mathlib.Core.Bool.{Bool, true, false, cond, not, ◌&&◌, ◌||◌}
-use mathlib.Core.List.{List, [], ◌∷◌}
+use mathlib.Core.Bool.{Bool, true, false, cond, ◌||◌}
+use mathlib.Core.List.{List, []}
 use native.Mathlib.Omega.{arith}
-use borrow.Author.Tests.{ne_eqb, eq-eqb, eqb-true, lt-leb, le-ltb, not-false}
-use lib.Dec.{eqb, ltb, leb}
-use lib.ListN.{length, get_or, take, drop}
+use borrow.Author.Tests.{ne_eqb, eq-eqb, lt-leb, le-ltb}
+use lib.Dec.{eqb}
+use lib.ListN.{length, get_or}
 use Rattle.cells.specs.declared.Cells.{Cells}
 use Rattle.cells.specs.Cells.{part_of, cells_of}
 use Rattle.cells.specs.Numbers.{number_of}
 use Rattle.cells.specs.Names.{name_of, column_of}
 use Rattle.cells.specs.Raw.{is_none, cells_in, cell_at}
 use Rattle.cells.proofs.Cut.{never}
-use Rattle.cells.proofs.Found.{split_at, split-counted, split-kept}
+use Rattle.cells.proofs.Found.{split_at, split-counted}
 use Rattle.lines.specs.declared.Layout.{Layout}
 use Rattle.lines.specs.declared.Task.{Task}
 use Rattle.lines.specs.declared.Reading.{Reading}
-use Rattle.lines.specs.Troubles.{task_at, start_of, end_of, cell_of, with_task, with_layout, is_refused, fails, fails_at_end}
+use Rattle.lines.specs.Troubles.{task_at, start_of, end_of, cell_of, with_task, with_layout, is_refused, fails_at_end}
 use Rattle.lines.specs.Columns.{has_column, with_column, column_as, column_to, missing_column, header_ended}
 use Rattle.lines.specs.Tasks.{field_at, numbered, number_as, name_as, cell_as, cell_to, with_read, task_ended}
 use Rattle.lines.specs.Lines.{cell_read, cells_read, header_read, task_with, task_read}

@@ -1,5 +1,5 @@
 -- A line of a text: nothing, a setting, the header, or a task.
-use Rattle.std.specs.Prelude.{ℕ, zero, suc, ◌+◌, min, Bool, true, false, cond, not, ◌||◌, List, eqb, leb}
+use Rattle.std.specs.Prelude.{ℕ, zero, suc, min, Bool, true, false, cond, ◌||◌, List, eqb, leb}
 use Rattle.cells.specs.declared.Cells.{Cells}
 use Rattle.cells.specs.Cells.{cells_of, separator_of}
 use Rattle.cells.specs.Kinds.{loose}

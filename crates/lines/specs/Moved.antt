@@ -1,5 +1,5 @@
 -- What a text is understood as but for the lines' numbers: where it says the same on other lines.
-use Rattle.std.specs.Prelude.{ℕ, List, [], ◌∷◌}
+use Rattle.std.specs.Prelude.{List, [], ◌∷◌}
 use Rattle.lines.specs.declared.Trouble.{Trouble}
 use Rattle.lines.specs.declared.Task.{Task}
 use Rattle.lines.specs.declared.Figures.{Figures}

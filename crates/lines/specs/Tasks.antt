@@ -1,6 +1,5 @@
 -- A task's line: a cell for each column.
-use Rattle.std.specs.Prelude.{ℕ, ◌+◌, ◌-◌, Bool, true, false, cond, ◌||◌, List, eqb, ltb, leb, get_or, set}
-use Rattle.cells.specs.declared.Cells.{Cells}
+use Rattle.std.specs.Prelude.{ℕ, ◌+◌, ◌-◌, cond, ◌||◌, List, eqb, ltb, leb, get_or, set}
 use Rattle.cells.specs.declared.Number.{Number}
 use Rattle.cells.specs.declared.Named.{Named}
 use Rattle.cells.specs.Cells.{part_of}

@@ -1,5 +1,5 @@
 -- Lines that are understood: what a task's line tells, cell by cell, and what a header does.
-use Rattle.std.specs.Prelude.{ℕ, zero, suc, ◌≡◌, Bool, false, cond, List, [], ◌∷◌, eqb}
+use Rattle.std.specs.Prelude.{ℕ, zero, suc, ◌≡◌, false, cond, List, [], ◌∷◌, eqb}
 use Rattle.places.specs.Places.{joined_below}
 use Rattle.cells.specs.Numbers.{number_of}
 use Rattle.cells.specs.Names.{name_of}

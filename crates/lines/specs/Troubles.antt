@@ -1,8 +1,7 @@
 -- What is not understood: where it stands and what stands there; and what is read of a text so far.
-use Rattle.std.specs.Prelude.{ℕ, ◌+◌, min, Bool, true, false, cond, not, List, [], ◌∷◌, eqb, ltb, length, get_or, replicate}
+use Rattle.std.specs.Prelude.{ℕ, ◌+◌, min, Bool, false, cond, not, List, [], ◌∷◌, eqb, ltb, length, get_or, replicate}
 use Rattle.places.specs.Places.{filled_below}
 use Rattle.cells.specs.declared.Cells.{Cells}
-use Rattle.cells.specs.declared.Name.{Name}
 use Rattle.cells.specs.Cells.{part_of}
 use Rattle.cells.specs.Names.{no_name}
 use Rattle.lines.specs.declared.Excerpt.{Excerpt}

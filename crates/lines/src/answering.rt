@@ -3,17 +3,14 @@ ghost use Rattle.std.specs.Prelude.{◌≡◌};
 ghost use Rattle.lines.specs.Answers.{has_mark, unmarked, content_taken, filled_in, no_figures, figures_of, ended_at, answered};
 
 use crate::{
-    Figures, Layout, Reading, Understood, column_lines, finding, line_kinds, refusing,
-    setting_lines,
+    Figures, Layout, Reading, Understood, column_lines, line_kinds, refusing, setting_lines,
 };
 
 // Whether a line begins with a byte order mark.
 fn has_mark(line: &[u8]) -> bool
     ensures { result ≡ has_mark line.now }
 {
-    (finding::byte_at(line, 0) == 239)
-        & (finding::byte_at(line, 1) == 187)
-        & (finding::byte_at(line, 2) == 191)
+    line.starts_with(&[239, 187, 191])
 }
 
 // The first line without its byte order mark, and any other line.
@@ -43,11 +40,9 @@ pub fn content_taken(reading: Reading, number: u64, line: &[u8], over: bool) -> 
 fn filled_in(layout: Layout) -> u8
     ensures { result ≡ filled_in layout }
 {
-    let has_deadlines = column_lines::has_column(layout, 5);
-    if column_lines::has_column(layout, 2) {
-        return if has_deadlines { 0 } else { 2 };
-    }
-    if has_deadlines { 1 } else { 3 }
+    let faults = u8::from(!column_lines::has_column(layout, 2));
+    let deadlines = u8::from(!column_lines::has_column(layout, 5));
+    faults + 2 * deadlines
 }
 
 // No figures.
@@ -68,16 +63,14 @@ fn no_figures() -> Figures
 fn figures_of(reading: Reading) -> Figures
     ensures { result ≡ figures_of reading }
 {
-    let layout = reading.layout;
-    let settings = reading.settings;
-    let values = settings.values;
+    let values = reading.settings.values;
     let tasks = reading.tasks;
     Figures {
         count: reading.count,
         interval: values[1],
         round: values[2],
         share: values[3],
-        filled: filled_in(layout),
+        filled: filled_in(reading.layout),
         tasks,
     }
 }
@@ -86,8 +79,7 @@ fn figures_of(reading: Reading) -> Figures
 pub fn ended(reading: Reading, number: u64, line: &[u8]) -> Reading
     ensures { result ≡ ended_at reading number line.now }
 {
-    let settings = reading.settings;
-    if refusing::is_refused(reading) | setting_lines::is_given(settings, 1) {
+    if refusing::is_refused(reading) | setting_lines::is_given(reading.settings, 1) {
         return reading;
     }
     refusing::fails_at_end(reading, number, line, 33, 0)
@@ -98,9 +90,8 @@ pub fn answered(reading: Reading) -> Understood
     ensures { result ≡ answered reading }
 {
     if refusing::is_refused(reading) {
-        let trouble = reading.trouble;
         return Understood {
-            trouble,
+            trouble: reading.trouble,
             figures: no_figures(),
         };
     }

@@ -1,8 +1,9 @@
 // The columns of a text.
-ghost use Rattle.std.specs.Prelude.{◌≡◌};
+ghost use Rattle.std.specs.Prelude.{◌≡◌, ◌==◌, cond, Some, None};
 ghost use Rattle.lines.specs.Columns.{plain_layout, named_layout, has_column, with_column, column_as, column_to, missing_column, header_ended};
 
-use crate::{Layout, Reading, finding, refusing};
+use crate::finding::Extent;
+use crate::{Layout, Reading, refusing};
 
 // The columns in their own order.
 pub fn plain_layout(separator: u8) -> Layout
@@ -32,8 +33,7 @@ pub fn named_layout(separator: u8) -> Layout
 pub fn has_column(layout: Layout, column: u8) -> bool
     ensures { result ≡ has_column layout column }
 {
-    let given = layout.given;
-    finding::given_at(given, column as usize)
+    layout.given.get(column as usize).copied().unwrap_or(false)
 }
 
 // One column more.
@@ -41,86 +41,65 @@ fn with_column(layout: Layout, column: u8) -> Layout
     ensures { result ≡ with_column layout column }
 {
     let width = layout.width;
-    if 8 <= width {
+    if (8 <= width) | (8 <= column) {
         return layout;
     }
-    if 8 <= column {
-        return layout;
-    }
-    let mut columns = layout.columns;
-    let mut given = layout.given;
-    columns[width as usize] = column;
-    given[column as usize] = true;
-    Layout {
-        separator: layout.separator,
-        width: width + 1,
-        columns,
-        given,
-    }
+    let mut wider = layout;
+    wider.columns[width as usize] = column;
+    wider.given[column as usize] = true;
+    wider.width = width + 1;
+    wider
 }
 
 // A column's name.
-fn column_as(
-    reading: Reading,
-    number: u64,
-    line: &[u8],
-    start: usize,
-    end: usize,
-    column: u8,
-) -> Reading
-    ensures { result ≡ column_as reading number line.now start end column }
+fn column_as(reading: Reading, number: u64, line: &[u8], at: Extent, column: u8) -> Reading
+    ensures { result ≡ column_as reading number line.now at.start at.end column }
 {
     if column == 0 {
-        return refusing::fails(reading, number, line, start, end, 38, 0);
+        return refusing::fails(reading, number, line, at, 38, 0);
     }
-    let layout = reading.layout;
-    if has_column(layout, column) {
-        return refusing::fails(reading, number, line, start, end, 39, column);
+    if has_column(reading.layout, column) {
+        return refusing::fails(reading, number, line, at, 39, column);
     }
-    refusing::with_layout(reading, with_column(layout, column))
+    Reading {
+        layout: with_column(reading.layout, column),
+        ..reading
+    }
 }
 
 // A cell of the header line.
-pub fn column_to(reading: Reading, number: u64, line: &[u8], start: usize, end: usize) -> Reading
-    ensures { result ≡ column_to reading number line.now start end }
+pub fn column_to(reading: Reading, number: u64, line: &[u8], at: Extent) -> Reading
+    ensures { result ≡ column_to reading number line.now at.start at.end }
 {
     if refusing::is_refused(reading) {
         return reading;
     }
-    if start == end {
-        return refusing::fails(reading, number, line, start, end, 35, 0);
+    if at.start == at.end {
+        return refusing::fails(reading, number, line, at, 35, 0);
     }
-    let column = cells::column_of(cells::part(line, start, end));
-    column_as(reading, number, line, start, end, column)
+    let column = cells::column_of(cells::part(line, at.start, at.end));
+    column_as(reading, number, line, at, column)
 }
 
-// The first column that must be there and is not, or 0.
-fn missing_column(layout: Layout) -> u8
-    ensures { result ≡ missing_column layout }
+// The first column that must be there and is not.
+fn missing_column(layout: Layout) -> Option<u8>
+    ensures { result ≡ cond (missing_column layout == 0) None (Some (missing_column layout)) }
 {
-    if !has_column(layout, 1) {
-        return 1;
-    }
-    if !has_column(layout, 3) {
-        return 3;
-    }
-    if !has_column(layout, 4) {
-        return 4;
-    }
-    if !has_column(layout, 6) {
-        return 6;
-    }
-    0
+    [1, 3, 4, 6]
+        .iter()
+        .copied()
+        .find(|column| !has_column(layout, *column))
 }
 
 // The header's end.
 pub fn header_ended(reading: Reading, number: u64, line: &[u8]) -> Reading
     ensures { result ≡ header_ended reading number line.now }
 {
-    let layout = reading.layout;
-    let missing = missing_column(layout);
-    if refusing::is_refused(reading) | (missing == 0) {
+    if refusing::is_refused(reading) {
         return reading;
     }
-    refusing::fails_at_end(reading, number, line, 40, missing)
+    match missing_column(reading.layout) {
+        Some(missing) => refusing::fails_at_end(reading, number, line, 40, missing),
+        None => reading,
+    }
 }

@@ -92,11 +92,7 @@ pub struct Understood {
 pub fn after(number: u64) -> u64
     ensures { result ≡ after number }
 {
-    if number < 18446744073709551615 {
-        number + 1
-    } else {
-        number
-    }
+    number.saturating_add(1)
 }
 
 // A text of which nothing is read yet.

@@ -1,78 +1,31 @@
 // A line of a text: nothing, a setting, the header, or a task.
-ghost use Rattle.std.specs.Prelude.{◌≡◌, min};
-ghost use Rattle.lines.specs.Lines.{cell_read, cells_read, header_read, task_with, task_read, columns_read, first_read, early_read, words_read, line_read};
+ghost use Rattle.std.specs.Prelude.{◌≡◌};
+ghost use Rattle.lines.specs.Lines.{header_read, task_with, task_read, columns_read, first_read, early_read, words_read, line_read};
 
 use crate::{Reading, column_lines, finding, refusing, setting_lines, task_lines};
 use cells::Cells;
 
-// A cell of the header line, or of a task's.
-fn cell_read(
-    is_header: bool,
-    reading: Reading,
-    number: u64,
-    line: &[u8],
-    place: usize,
-    start: usize,
-    end: usize,
-) -> Reading
-    ensures { result ≡ cell_read is_header reading number line.now place start end }
-{
-    if is_header {
-        return column_lines::column_to(reading, number, line, start, end);
-    }
-    task_lines::cell_to(reading, number, line, place, start, end)
-}
-
-// The line's cells one after the other.
-fn cells_read(is_header: bool, reading: Reading, number: u64, line: &[u8], cells: Cells) -> Reading
-    ensures { result ≡ cells_read is_header reading number line.now cells (min cells.count 8) }
-{
-    let count = refusing::least(cells.count, 8);
-    let mut next = reading;
-    let mut place: usize = 0;
-    while place < count {
-        next = cell_read(
-            is_header,
-            next,
-            number,
-            line,
-            place,
-            finding::start_of(cells, place),
-            finding::end_of(cells, place),
-        );
-        place += 1;
-    }
-    next
-}
-
-// The header line.
+// The header line: its cells one after the other.
 fn header_read(reading: Reading, number: u64, line: &[u8], cells: Cells) -> Reading
     ensures { result ≡ header_read reading number line.now cells }
 {
-    column_lines::header_ended(cells_read(true, reading, number, line, cells), number, line)
+    let read = (0..cells.count.min(8)).fold(reading, |next, place| {
+        column_lines::column_to(next, number, line, finding::extent_of(cells, place))
+    });
+    column_lines::header_ended(read, number, line)
 }
 
-// A task's line by its cells.
+// A task's line by its cells, one after the other.
 fn task_with(reading: Reading, number: u64, line: &[u8], cells: Cells) -> Reading
     ensures { result ≡ task_with reading number line.now cells }
 {
     if 8 <= reading.count {
-        return refusing::fails(
-            reading,
-            number,
-            line,
-            finding::start_of(cells, 0),
-            finding::end_of(cells, 0),
-            34,
-            0,
-        );
+        return refusing::fails(reading, number, line, finding::extent_of(cells, 0), 34, 0);
     }
-    task_lines::task_ended(
-        cells_read(false, reading, number, line, cells),
-        number,
-        line,
-        cells.count,
-    )
+    let read = (0..cells.count.min(8)).fold(reading, |next, place| {
+        task_lines::cell_to(next, number, line, place, finding::extent_of(cells, place))
+    });
+    task_lines::task_ended(read, number, line, cells.count)
 }
 
 // A task's line.
@@ -80,12 +33,8 @@ fn task_read(reading: Reading, number: u64, line: &[u8]) -> Reading
     ensures { result ≡ task_read reading number line.now }
 {
     let cells = cells::split(line, reading.layout.separator);
-    task_with(
-        refusing::with_task(reading, refusing::task_at(number)),
-        number,
-        line,
-        cells,
-    )
+    let task = refusing::task_at(number);
+    task_with(Reading { task, ..reading }, number, line, cells)
 }
 
 // The first line that is no setting, by its separator.
@@ -93,37 +42,22 @@ fn columns_read(reading: Reading, number: u64, line: &[u8], words: Cells, separa
     ensures { result ≡ columns_read reading number line.now words separator }
 {
     if finding::begins_number(finding::cell_of(line, words, 0)) {
-        return task_read(
-            refusing::with_layout(reading, column_lines::plain_layout(separator)),
-            number,
-            line,
-        );
+        let layout = column_lines::plain_layout(separator);
+        return task_read(Reading { layout, ..reading }, number, line);
     }
-    header_read(
-        refusing::with_layout(reading, column_lines::named_layout(separator)),
-        number,
-        line,
-        cells::split(line, separator),
-    )
+    let layout = column_lines::named_layout(separator);
+    let cells = cells::split(line, separator);
+    header_read(Reading { layout, ..reading }, number, line, cells)
 }
 
 // The first line that is no setting.
 fn first_read(reading: Reading, number: u64, line: &[u8], words: Cells) -> Reading
     ensures { result ≡ first_read reading number line.now words }
 {
-    let settings = reading.settings;
-    if setting_lines::is_given(settings, 1) {
+    if setting_lines::is_given(reading.settings, 1) {
         return columns_read(reading, number, line, words, cells::separator_of(line));
     }
-    refusing::fails(
-        reading,
-        number,
-        line,
-        finding::start_of(words, 0),
-        finding::end_of(words, 0),
-        33,
-        0,
-    )
+    refusing::fails(reading, number, line, finding::extent_of(words, 0), 33, 0)
 }
 
 // A line before the first task's.
@@ -131,14 +65,7 @@ fn early_read(reading: Reading, number: u64, line: &[u8], words: Cells) -> Readi
     ensures { result ≡ early_read reading number line.now words }
 {
     if setting_lines::is_lone(reading, line, words) {
-        return setting_lines::setting_to(
-            reading,
-            number,
-            line,
-            1,
-            finding::start_of(words, 0),
-            finding::end_of(words, 0),
-        );
+        return setting_lines::setting_to(reading, number, line, 1, finding::extent_of(words, 0));
     }
     if setting_lines::is_named_line(line, words) {
         let which = cells::setting_of(finding::cell_of(line, words, 0));

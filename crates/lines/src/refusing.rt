@@ -1,29 +1,17 @@
-// What is not understood, and what is read of a text with one part of it anew.
-ghost use Rattle.std.specs.Prelude.{◌≡◌, ◌≤◌, min};
-ghost use Rattle.lines.specs.Troubles.{excerpt_of, no_trouble, task_at, no_settings, no_layout, with_trouble, with_settings, with_layout, with_task, is_refused, fails, fails_at_end};
+// What is not understood, and where nothing is read yet.
+ghost use Rattle.std.specs.Prelude.{◌≡◌};
+ghost use Rattle.lines.specs.Troubles.{excerpt_of, no_trouble, task_at, no_settings, no_layout, is_refused, fails, fails_at_end};
 
+use crate::finding::Extent;
 use crate::{Excerpt, Layout, Reading, Settings, Task, Trouble, after};
-
-// The lesser of two lengths.
-pub fn least(a: usize, b: usize) -> usize
-    ensures value { result ≡ min a b }
-    ensures under { result ≤ b }
-    ensures within { result ≤ a }
-{
-    if a < b { a } else { b }
-}
 
 // The first bytes of what stands at a place.
 fn excerpt_of(shown: &[u8]) -> Excerpt
     ensures { result ≡ excerpt_of shown.now }
 {
-    let count = least(shown.len(), 20);
+    let count = shown.len().min(20);
     let mut bytes = [0u8; 20];
-    let mut place: usize = 0;
-    while place < count {
-        bytes[place] = shown[place];
-        place += 1;
-    }
+    bytes[..count].copy_from_slice(&shown[..count]);
     Excerpt {
         length: count as u8,
         bytes,
@@ -80,42 +68,6 @@ pub fn no_layout() -> Layout
     }
 }
 
-// What is read, with a trouble.
-fn with_trouble(reading: Reading, trouble: Trouble) -> Reading
-    ensures { result ≡ with_trouble reading trouble }
-{
-    let mut next = reading;
-    next.trouble = trouble;
-    next
-}
-
-// What is read, with settings.
-pub fn with_settings(reading: Reading, settings: Settings) -> Reading
-    ensures { result ≡ with_settings reading settings }
-{
-    let mut next = reading;
-    next.settings = settings;
-    next
-}
-
-// What is read, with columns.
-pub fn with_layout(reading: Reading, layout: Layout) -> Reading
-    ensures { result ≡ with_layout reading layout }
-{
-    let mut next = reading;
-    next.layout = layout;
-    next
-}
-
-// What is read, with the task of its line.
-pub fn with_task(reading: Reading, task: Task) -> Reading
-    ensures { result ≡ with_task reading task }
-{
-    let mut next = reading;
-    next.task = task;
-    next
-}
-
 // Whether something was not understood.
 pub fn is_refused(reading: Reading) -> bool
     ensures { result ≡ is_refused reading }
@@ -128,38 +80,30 @@ pub fn fails(
     reading: Reading,
     number: u64,
     line: &[u8],
-    start: usize,
-    end: usize,
+    at: Extent,
     refusal: u8,
     field: u8,
 ) -> Reading
-    ensures { result ≡ fails reading number line.now start end refusal field }
+    ensures { result ≡ fails reading number line.now at.start at.end refusal field }
 {
-    let name = reading.task.name;
-    with_trouble(
-        reading,
-        Trouble {
-            refusal,
-            line: number,
-            column: after(start as u64),
-            field,
-            excerpt: excerpt_of(cells::part(line, start, end)),
-            name,
-        },
-    )
+    let trouble = Trouble {
+        refusal,
+        line: number,
+        column: after(at.start as u64),
+        field,
+        excerpt: excerpt_of(cells::part(line, at.start, at.end)),
+        name: reading.task.name,
+    };
+    Reading { trouble, ..reading }
 }
 
 // Something is missing where a line ends.
 pub fn fails_at_end(reading: Reading, number: u64, line: &[u8], refusal: u8, field: u8) -> Reading
     ensures { result ≡ fails_at_end reading number line.now refusal field }
 {
-    fails(
-        reading,
-        number,
-        line,
-        line.len(),
-        line.len(),
-        refusal,
-        field,
-    )
+    let end = Extent {
+        start: line.len(),
+        end: line.len(),
+    };
+    fails(reading, number, line, end, refusal, field)
 }

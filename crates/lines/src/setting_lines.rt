@@ -1,23 +1,16 @@
 // Lines of settings.
-ghost use Rattle.std.specs.Prelude.{◌≡◌, false, get_or};
+ghost use Rattle.std.specs.Prelude.{◌≡◌};
 ghost use Rattle.lines.specs.Settings.{is_given, with_setting, setting_with, setting_to, is_lone, is_named_line, are_first, is_open, is_pair, no_more, named_read, share_after, pair_read};
 
+use crate::finding::Extent;
 use crate::{Reading, Settings, finding, refusing};
 use cells::{Cells, Number};
-
-// The answer at a place of four, no past them.
-fn answer_at(given: [bool; 4], place: usize) -> bool
-    ensures { result ≡ get_or given place false }
-{
-    if place < 4 { given[place] } else { false }
-}
 
 // Whether a setting is given.
 pub fn is_given(settings: Settings, which: u8) -> bool
     ensures { result ≡ is_given settings which }
 {
-    let given = settings.given;
-    answer_at(given, which as usize)
+    settings.given.get(which as usize).copied().unwrap_or(false)
 }
 
 // The settings with one more.
@@ -27,11 +20,10 @@ fn with_setting(settings: Settings, which: u8, value: u64) -> Settings
     if 4 <= which {
         return settings;
     }
-    let mut given = settings.given;
-    let mut values = settings.values;
-    given[which as usize] = true;
-    values[which as usize] = value;
-    Settings { given, values }
+    let mut more = settings;
+    more.given[which as usize] = true;
+    more.values[which as usize] = value;
+    more
 }
 
 // A setting's number, or why it is none.
@@ -40,41 +32,34 @@ fn setting_with(
     number: u64,
     line: &[u8],
     which: u8,
-    start: usize,
-    end: usize,
+    at: Extent,
     value: Number,
 ) -> Reading
-    ensures { result ≡ setting_with reading number line.now which start end value }
+    ensures { result ≡ setting_with reading number line.now which at.start at.end value }
 {
     if value.refusal != 0 {
-        return refusing::fails(reading, number, line, start, end, value.refusal, 0);
+        return refusing::fails(reading, number, line, at, value.refusal, 0);
     }
-    let settings = reading.settings;
-    refusing::with_settings(reading, with_setting(settings, which, value.value))
+    Reading {
+        settings: with_setting(reading.settings, which, value.value),
+        ..reading
+    }
 }
 
 // A setting's cell.
-pub fn setting_to(
-    reading: Reading,
-    number: u64,
-    line: &[u8],
-    which: u8,
-    start: usize,
-    end: usize,
-) -> Reading
-    ensures { result ≡ setting_to reading number line.now which start end }
+pub fn setting_to(reading: Reading, number: u64, line: &[u8], which: u8, at: Extent) -> Reading
+    ensures { result ≡ setting_to reading number line.now which at.start at.end }
 {
-    let value = cells::number_of(cells::part(line, start, end));
-    setting_with(reading, number, line, which, start, end, value)
+    let value = cells::number_of(cells::part(line, at.start, at.end));
+    setting_with(reading, number, line, which, at, value)
 }
 
 // Whether a line is a number by itself where there is no interval yet.
 pub fn is_lone(reading: Reading, line: &[u8], words: Cells) -> bool
     ensures { result ≡ is_lone reading line.now words }
 {
-    let settings = reading.settings;
     (words.count == 1)
-        & !is_given(settings, 1)
+        & !is_given(reading.settings, 1)
         & finding::begins_number(finding::cell_of(line, words, 0))
 }
 
@@ -105,11 +90,10 @@ fn is_open(settings: Settings) -> bool
 pub fn is_pair(reading: Reading, line: &[u8], words: Cells) -> bool
     ensures { result ≡ is_pair reading line.now words }
 {
-    let settings = reading.settings;
     let cells = cells::split(line, cells::separator_of(line));
     let first = finding::begins_number(finding::cell_of(line, words, 0));
     let second = finding::begins_number(finding::cell_of(line, words, 1));
-    (words.count == 2) & is_open(settings) & first & second & are_first(words, cells)
+    (words.count == 2) & is_open(reading.settings) & first & second & are_first(words, cells)
 }
 
 // One number too many.
@@ -119,41 +103,17 @@ fn no_more(reading: Reading, number: u64, line: &[u8], words: Cells) -> Reading
     if refusing::is_refused(reading) | (words.count <= 2) {
         return reading;
     }
-    refusing::fails(
-        reading,
-        number,
-        line,
-        finding::start_of(words, 2),
-        finding::end_of(words, 2),
-        32,
-        0,
-    )
+    refusing::fails(reading, number, line, finding::extent_of(words, 2), 32, 0)
 }
 
 // A setting by its name.
 pub fn named_read(reading: Reading, number: u64, line: &[u8], words: Cells, which: u8) -> Reading
     ensures { result ≡ named_read reading number line.now words which }
 {
-    let settings = reading.settings;
-    if is_given(settings, which) {
-        return refusing::fails(
-            reading,
-            number,
-            line,
-            finding::start_of(words, 0),
-            finding::end_of(words, 0),
-            44,
-            0,
-        );
+    if is_given(reading.settings, which) {
+        return refusing::fails(reading, number, line, finding::extent_of(words, 0), 44, 0);
     }
-    let next = setting_to(
-        reading,
-        number,
-        line,
-        which,
-        finding::start_of(words, 1),
-        finding::end_of(words, 1),
-    );
+    let next = setting_to(reading, number, line, which, finding::extent_of(words, 1));
     no_more(next, number, line, words)
 }
 
@@ -164,27 +124,13 @@ fn share_after(reading: Reading, number: u64, line: &[u8], words: Cells) -> Read
     if refusing::is_refused(reading) {
         return reading;
     }
-    setting_to(
-        reading,
-        number,
-        line,
-        3,
-        finding::start_of(words, 1),
-        finding::end_of(words, 1),
-    )
+    setting_to(reading, number, line, 3, finding::extent_of(words, 1))
 }
 
 // Round and share.
 pub fn pair_read(reading: Reading, number: u64, line: &[u8], words: Cells) -> Reading
     ensures { result ≡ pair_read reading number line.now words }
 {
-    let next = setting_to(
-        reading,
-        number,
-        line,
-        2,
-        finding::start_of(words, 0),
-        finding::end_of(words, 0),
-    );
+    let next = setting_to(reading, number, line, 2, finding::extent_of(words, 0));
     share_after(next, number, line, words)
 }

@@ -2,35 +2,27 @@
 ghost use Rattle.std.specs.Prelude.{◌≡◌};
 ghost use Rattle.lines.specs.Tasks.{field_at, numbered, number_as, name_as, cell_as, cell_to, with_fault, with_deadline, filled_task, with_read, task_ended};
 
-use crate::{Layout, Reading, Task, column_lines, finding, refusing};
+use crate::finding::Extent;
+use crate::{Layout, Reading, Task, column_lines, refusing};
 use cells::{Named, Number};
 
 // The column of a line's cell.
 fn field_at(layout: Layout, place: usize) -> u8
     ensures { result ≡ field_at layout place }
 {
-    let columns = layout.columns;
-    finding::column_at(columns, place)
+    layout.columns.get(place).copied().unwrap_or(0)
 }
 
 // A task with one number more.
 fn numbered(task: Task, column: u8, value: u64) -> Task
     ensures { result ≡ numbered task column value }
 {
-    if column == 0 {
+    if (column == 0) | (6 < column) {
         return task;
     }
-    if 6 < column {
-        return task;
-    }
-    let mut numbers = task.numbers;
-    let name = task.name;
-    numbers[(column - 1) as usize] = value;
-    Task {
-        line: task.line,
-        numbers,
-        name,
-    }
+    let mut more = task;
+    more.numbers[(column - 1) as usize] = value;
+    more
 }
 
 // A cell as a number, or why it is none.
@@ -39,87 +31,59 @@ fn number_as(
     number: u64,
     line: &[u8],
     column: u8,
-    start: usize,
-    end: usize,
+    at: Extent,
     value: Number,
 ) -> Reading
-    ensures { result ≡ number_as reading number line.now column start end value }
+    ensures { result ≡ number_as reading number line.now column at.start at.end value }
 {
     if value.refusal != 0 {
-        return refusing::fails(reading, number, line, start, end, value.refusal, column);
+        return refusing::fails(reading, number, line, at, value.refusal, column);
     }
-    let task = reading.task;
-    refusing::with_task(reading, numbered(task, column, value.value))
+    Reading {
+        task: numbered(reading.task, column, value.value),
+        ..reading
+    }
 }
 
 // A cell as the task's name, or why it is none.
-fn name_as(
-    reading: Reading,
-    number: u64,
-    line: &[u8],
-    start: usize,
-    end: usize,
-    named: Named,
-) -> Reading
-    ensures { result ≡ name_as reading number line.now start end named }
+fn name_as(reading: Reading, number: u64, line: &[u8], at: Extent, named: Named) -> Reading
+    ensures { result ≡ name_as reading number line.now at.start at.end named }
 {
     if named.refusal != 0 {
-        return refusing::fails(reading, number, line, start, end, named.refusal, 7);
+        return refusing::fails(reading, number, line, at, named.refusal, 7);
     }
-    let task = reading.task;
-    let numbers = task.numbers;
-    let name = named.name;
-    refusing::with_task(
-        reading,
-        Task {
-            line: task.line,
-            numbers,
-            name,
-        },
-    )
+    let mut next = reading;
+    next.task.name = named.name;
+    next
 }
 
 // A cell in its column.
-fn cell_as(
-    reading: Reading,
-    number: u64,
-    line: &[u8],
-    column: u8,
-    start: usize,
-    end: usize,
-) -> Reading
-    ensures { result ≡ cell_as reading number line.now column start end }
+fn cell_as(reading: Reading, number: u64, line: &[u8], column: u8, at: Extent) -> Reading
+    ensures { result ≡ cell_as reading number line.now column at.start at.end }
 {
-    if start == end {
-        return refusing::fails(reading, number, line, start, end, 35, column);
+    if at.start == at.end {
+        return refusing::fails(reading, number, line, at, 35, column);
     }
     if column == 7 {
-        let named = cells::name_of(cells::part(line, start, end));
-        return name_as(reading, number, line, start, end, named);
+        let named = cells::name_of(cells::part(line, at.start, at.end));
+        return name_as(reading, number, line, at, named);
     }
-    let value = cells::number_of(cells::part(line, start, end));
-    number_as(reading, number, line, column, start, end, value)
+    let value = cells::number_of(cells::part(line, at.start, at.end));
+    number_as(reading, number, line, column, at, value)
 }
 
 // The cell at a place.
-pub fn cell_to(
-    reading: Reading,
-    number: u64,
-    line: &[u8],
-    place: usize,
-    start: usize,
-    end: usize,
-) -> Reading
-    ensures { result ≡ cell_to reading number line.now place start end }
+pub fn cell_to(reading: Reading, number: u64, line: &[u8], place: usize, at: Extent) -> Reading
+    ensures { result ≡ cell_to reading number line.now place at.start at.end }
 {
     if refusing::is_refused(reading) {
         return reading;
     }
     let layout = reading.layout;
     if layout.width as usize <= place {
-        return refusing::fails(reading, number, line, start, end, 32, 0);
+        return refusing::fails(reading, number, line, at, 32, 0);
     }
-    cell_as(reading, number, line, field_at(layout, place), start, end)
+    cell_as(reading, number, line, field_at(layout, place), at)
 }
 
 // The numbers with the fault priority filled in where it has no column.
@@ -150,12 +114,9 @@ fn with_deadline(layout: Layout, numbers: [u64; 6]) -> [u64; 6]
 fn filled_task(layout: Layout, task: Task) -> Task
     ensures { result ≡ filled_task layout task }
 {
-    let numbers = task.numbers;
-    let name = task.name;
     Task {
-        line: task.line,
-        numbers: with_deadline(layout, with_fault(layout, numbers)),
-        name,
+        numbers: with_deadline(layout, with_fault(layout, task.numbers)),
+        ..task
     }
 }
 
@@ -167,13 +128,9 @@ fn with_read(reading: Reading) -> Reading
     if 8 <= count {
         return reading;
     }
-    let layout = reading.layout;
-    let task = reading.task;
-    let mut tasks = reading.tasks;
-    tasks[count as usize] = filled_task(layout, task);
     let mut next = reading;
+    next.tasks[count as usize] = filled_task(reading.layout, reading.task);
     next.count = count + 1;
-    next.tasks = tasks;
     next
 }
 

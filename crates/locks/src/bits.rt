@@ -39,10 +39,8 @@ pub fn highest_user(users: u8) -> u8
     ensures { result ≡ highest_user users }
 {
     let mut highest: u8 = 0;
-    let mut place: usize = 0;
-    while place < 8 {
+    for place in 0..8 {
         highest = higher(has_bit(users, place), place, highest);
-        place += 1;
     }
     highest
 }

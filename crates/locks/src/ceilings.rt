@@ -30,12 +30,8 @@ pub fn barred(jobs: [Job; 8], count: u8, resources: [Resource; 8], priority: u8)
     requires { count ≤ 8 }
     ensures { result ≡ some_below (λ number. bars (resource_at resources number) (some_job jobs count (λ job. has_bit job.uses number)) priority) 8 }
 {
-    let mut found = false;
-    let mut place: usize = 0;
-    while place < 8 {
+    (0..8).any(|place| {
         let is_critical = running::some_uses(jobs, count, place);
-        found = found | bars(resources[place], is_critical, priority);
-        place += 1;
-    }
-    found
+        bars(resources[place], is_critical, priority)
+    })
 }

@@ -38,15 +38,13 @@ fn nearest(jobs: [Job; 8], count: u8, resource: usize, phase: u32, period: u32) 
     ensures { result ≡ nearest period phase resource jobs count }
 {
     let mut near = period as u64;
-    let mut place: usize = 0;
-    while place < count as usize {
+    for place in 0..count as usize {
         let job = jobs[place];
         near = nearer(
             bits::has_bit(job.uses, resource),
             distance(job.offset, phase, period),
             near,
         );
-        place += 1;
     }
     near
 }
@@ -69,11 +67,9 @@ fn between(jobs: [Job; 8], count: u8, limit: u64, phase: u32, period: u32) -> u6
     ensures { result ≡ between period phase limit jobs count }
 {
     let mut sum: u64 = 0;
-    let mut place: usize = 0;
-    while place < count as usize {
+    for place in 0..count as usize {
         let job = jobs[place];
         sum += length_before(distance(job.offset, phase, period), limit, job.length);
-        place += 1;
     }
     sum
 }

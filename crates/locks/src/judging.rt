@@ -25,13 +25,9 @@ fn overlaps_earlier(jobs: [Job; 8], place: usize) -> bool
     requires { place < 8 }
     ensures { result ≡ overlaps_earlier jobs place }
 {
-    let mut found = false;
-    let mut earlier: usize = 0;
-    while earlier < place {
-        found = found | overlap(jobs[earlier], jobs[place]);
-        earlier += 1;
-    }
-    found
+    jobs[..place]
+        .iter()
+        .any(|earlier| overlap(*earlier, jobs[place]))
 }
 
 // Whether some job below the count is wrong by itself or overlaps an earlier one.
@@ -39,13 +35,7 @@ fn some_wrong(jobs: [Job; 8], count: u8, period: u32) -> bool
     requires { count ≤ 8 }
     ensures { result ≡ some_below (λ place. is_wrong period (job_at jobs place) || overlaps_earlier jobs place) count }
 {
-    let mut found = false;
-    let mut place: usize = 0;
-    while place < count as usize {
-        found = found | (is_wrong(jobs[place], period) | overlaps_earlier(jobs, place));
-        place += 1;
-    }
-    found
+    (0..count as usize).any(|place| is_wrong(jobs[place], period) | overlaps_earlier(jobs, place))
 }
 
 // Whether a start table breaks its rules.
@@ -70,11 +60,5 @@ fn wrong_holder(resource: Resource) -> bool
 pub fn some_wrong_holder(resources: [Resource; 8]) -> bool
     ensures { result ≡ some_wrong_holder resources }
 {
-    let mut found = false;
-    let mut place: usize = 0;
-    while place < 8 {
-        found = found | wrong_holder(resources[place]);
-        place += 1;
-    }
-    found
+    resources.iter().any(|resource| wrong_holder(*resource))
 }

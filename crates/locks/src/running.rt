@@ -33,13 +33,7 @@ pub fn some_runs(jobs: [Job; 8], count: u8, phase: u32) -> bool
     requires { count ≤ 8 }
     ensures { result ≡ some_job jobs count (λ job. within job.offset job.length phase) }
 {
-    let mut found = false;
-    let mut place: usize = 0;
-    while place < count as usize {
-        found = found | runs(jobs[place], phase);
-        place += 1;
-    }
-    found
+    jobs[..count as usize].iter().any(|job| runs(*job, phase))
 }
 
 // Whether some job uses a resource.
@@ -48,12 +42,7 @@ pub fn some_uses(jobs: [Job; 8], count: u8, resource: usize) -> bool
     requires known { resource ≤ 7 }
     ensures { result ≡ some_job jobs count (λ job. has_bit job.uses resource) }
 {
-    let mut found = false;
-    let mut place: usize = 0;
-    while place < count as usize {
-        let job = jobs[place];
-        found = found | bits::has_bit(job.uses, resource);
-        place += 1;
-    }
-    found
+    jobs[..count as usize]
+        .iter()
+        .any(|job| bits::has_bit(job.uses, resource))
 }

@@ -6,14 +6,18 @@ use mathlib.Core.List.{List}
 use native.Mathlib.Omega.{arith}
 use borrow.Author.Tests.{le-leb, eq-eqb, ne_eqb}
 use lib.Dec.{eqb, leb}
+use Rattle.std.specs.Prelude.{Ok, Err}
+use Rattle.std.specs.Result.{result_unwrap_or}
+use Rattle.places.specs.Answered.{numbered, answered}
 use Rattle.sheet.specs.declared.Record.{Record}
 use Rattle.sheet.specs.declared.Table.{Table}
 use Rattle.sheet.specs.Layout.{record_at}
 use Rattle.sheet.specs.Rules.{table_refusal}
 use Rattle.sheet.proofs.Agree.{room_at, room-agree}
 use Rattle.analysis.specs.declared.Rule.{Rule}
+use Rattle.analysis.specs.Common.Tasks.{own_choice}
 use Rattle.analysis.specs.Common.Entries.{own_tasks, verdict_of}
-use Rattle.analysis.specs.ByRule.{meets, meets_answer, own_meets}
+use Rattle.analysis.specs.ByRule.{meets, judged_refusal, meets_answer, own_meets}
 use Rattle.analysis.proofs.Laws.ByRule.{rule-good, own-judged}
 use Rattle.margins.specs.declared.Field.{Field}
 use Rattle.margins.specs.declared.changing.Change.{Change}
@@ -105,3 +109,12 @@ fitted-other field value k there r other = rw (ne_eqb k there other) refl
 pub verdict : (rule : Rule) (t : Table) → (own_meets rule t).yes ≡ holds rule t
 unfolding own_meets meets_answer verdict_of holds
 verdict rule t = ap (λ (r : ℕ). cond (eqb r 0) (meets rule (own_tasks t)) false) (own-judged rule t)
+
+-- and a refused table has none
+pub told-verdict : (rule : Rule) (t : Table) → result_unwrap_or (answered (own_meets rule t).refusal (own_meets rule t).yes) false ≡ (own_meets rule t).yes
+unfolding own_meets meets_answer verdict_of answered
+told-verdict rule t = go (eqb (judged_refusal rule t (own_choice t)) 0)
+  where
+    go : (fine : Bool) → result_unwrap_or (cond fine (Ok (cond fine (meets rule (own_tasks t)) false)) (Err (numbered (judged_refusal rule t (own_choice t))))) false ≡ cond fine (meets rule (own_tasks t)) false
+    go true = refl
+    go false = refl

@@ -4,6 +4,9 @@ use mathlib.Core.Path.{◌≡◌, refl, sym, ap, ◌∙◌}
 use mathlib.Core.Bool.{Bool, true, false, true≢false, cond, not}
 use native.Mathlib.Omega.{arith}
 use borrow.Author.Tests.{not-true, not-false}
+use lib.Dec.{eqb}
+use Rattle.std.specs.Prelude.{Some, None, Ok, Err}
+use Rattle.places.specs.Answered.{numbered, answered}
 use Rattle.places.specs.Search.{first_from}
 use Rattle.places.proofs.Search.{Fails, first_found, first-none}
 use Rattle.sheet.specs.declared.Record.{Record}
@@ -11,6 +14,7 @@ use Rattle.sheet.specs.declared.Table.{Table}
 use Rattle.sheet.specs.Layout.{record_at}
 use Rattle.sheet.specs.Rules.{table_refusal}
 use Rattle.analysis.specs.declared.Rule.{Rule}
+use Rattle.analysis.specs.Told.{some_of}
 use Rattle.analysis.proofs.Laws.Published.Halving.{Kept, Between}
 use Rattle.margins.specs.declared.Field.{Field}
 use Rattle.margins.specs.declared.Field.TheVariants.{Cost, Backup, Deadline, Period}
@@ -18,8 +22,20 @@ use Rattle.margins.specs.declared.changing.Change.{Change}
 use Rattle.margins.specs.declared.changing.Change.TheVariants.{One, All}
 use Rattle.margins.specs.Margins.{holds_with, asks_least, last_field, last_of, last_from, margin_of}
 use Rattle.margins.specs.Fitted.{InRoom, Placed, value_at}
+use Rattle.margins.specs.Answers.{furthest_of, furthest_told}
+use Rattle.margins.specs.Answers.Furthest.{Refused, At, Nothing}
 use Rattle.margins.proofs.Last.{last_found, last_none}
 use Rattle.margins.proofs.Kept.{EasierValue, Sound, sound-at, holds_kept}
+
+-- what is answered for a margin: it, or that there is none
+pub furthest-answered : (refusal margin : ℕ) → furthest_told (furthest_of refusal margin) ≡ answered refusal (some_of margin)
+unfolding furthest_of answered some_of furthest_told
+furthest-answered refusal margin = go (eqb refusal 0) (eqb margin 0)
+  where
+    go : (fine none : Bool) → furthest_told (cond fine (cond none Nothing (At margin)) (Refused refusal)) ≡ cond fine (Ok (cond none None (Some margin))) (Err (numbered refusal))
+    go true true = refl
+    go true false = refl
+    go false none = refl
 
 -- the values that are asked for
 module _ (change : Change) (last : ℕ) where

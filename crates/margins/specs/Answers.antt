@@ -1,15 +1,26 @@
 -- What the calls answer, refusals included.
-use Rattle.std.specs.Prelude.{ℕ, cond, eqb}
+use Rattle.std.specs.Prelude.{ℕ, cond, eqb, Option, Some, None, Result, Ok, Err}
+use Rattle.places.specs.declared.refusal.Refusal.{Refusal}
+use Rattle.places.specs.Answered.{numbered}
 use Rattle.sheet.specs.declared.Table.{Table}
 use Rattle.analysis.specs.declared.Rule.{Rule}
 use Rattle.analysis.specs.ByRule.{rule_refusal, place_refusal}
 use Rattle.margins.specs.declared.Field.{Field}
-use Rattle.margins.specs.declared.Furthest.{Furthest}
-use Rattle.margins.specs.declared.Furthest.TheVariants.{Refused, At, Nothing}
 use Rattle.margins.specs.declared.changing.Change.TheVariants.{One, All}
 use Rattle.margins.specs.Margins.{margin_of}
 
 -- a refusal's number, the margin, or "none"
+pub data Furthest : Type 0 where
+  Refused : ℕ → Furthest
+  At : ℕ → Furthest
+  Nothing : Furthest
+
+-- what the calls answer of it
+unfoldable pub furthest_told : Furthest → Result (Option ℕ) Refusal
+furthest_told (Refused refusal) = Err (numbered refusal)
+furthest_told (At margin) = Ok (Some margin)
+furthest_told Nothing = Ok None
+
 unfoldable pub furthest_of : ℕ → ℕ → Furthest
 furthest_of refusal margin = cond (eqb refusal 0) (cond (eqb margin 0) Nothing (At margin)) (Refused refusal)
 

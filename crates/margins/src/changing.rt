@@ -20,35 +20,19 @@ fn with_value(task: Record, field: Field, value: u16) -> Record
     match field {
         Field::Cost => Record {
             cost: value,
-            backup: task.backup,
-            deadline: task.deadline,
-            period: task.period,
-            priority: task.priority,
-            fault_priority: task.fault_priority,
+            ..task
         },
         Field::Backup => Record {
-            cost: task.cost,
             backup: value,
-            deadline: task.deadline,
-            period: task.period,
-            priority: task.priority,
-            fault_priority: task.fault_priority,
+            ..task
         },
         Field::Deadline => Record {
-            cost: task.cost,
-            backup: task.backup,
             deadline: value,
-            period: task.period,
-            priority: task.priority,
-            fault_priority: task.fault_priority,
+            ..task
         },
         Field::Period => Record {
-            cost: task.cost,
-            backup: task.backup,
-            deadline: task.deadline,
             period: value,
-            priority: task.priority,
-            fault_priority: task.fault_priority,
+            ..task
         },
     }
 }
@@ -80,10 +64,7 @@ fn changed_at(task: Record, change: Change, value: u32, place: usize) -> Record
         Change::All => Record {
             cost: grown(task.cost, value, task.deadline),
             backup: grown(task.backup, value, task.deadline),
-            deadline: task.deadline,
-            period: task.period,
-            priority: task.priority,
-            fault_priority: task.fault_priority,
+            ..task
         },
     }
 }
@@ -94,25 +75,9 @@ pub fn changed(table: Table, change: Change, value: u32) -> Table
     requires room { InRoom change value }
     ensures { result ≡ fitted_to change value table }
 {
-    let none = Record {
-        cost: 0,
-        backup: 0,
-        deadline: 0,
-        period: 0,
-        priority: 0,
-        fault_priority: 0,
-    };
-    let mut records = [none; 8];
-    let mut place: usize = 0;
-    while place < table.count as usize {
+    let mut records = [sheet::no_record(); 8];
+    for place in 0..table.count as usize {
         records[place] = changed_at(table.records[place], change, value, place);
-        place += 1;
     }
-    Table {
-        count: table.count,
-        interval: table.interval,
-        round: table.round,
-        share: table.share,
-        records,
-    }
+    Table { records, ..table }
 }

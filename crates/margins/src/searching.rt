@@ -1,5 +1,6 @@
 // The search for a margin. The values are asked for in steps, from the easiest to the hardest: a table that does not hold at a step does not hold at a later one.
 ghost use Rattle.std.specs.Prelude.{◌≡◌, ◌≤◌};
+ghost use Rattle.analysis.specs.Told.{some_of};
 ghost use Rattle.analysis.specs.ByRule.{rule_refusal};
 ghost use Rattle.margins.specs.Margins.{holds_with, least_field, asks_least, last_field, last_of, margin_of};
 ghost use Rattle.margins.specs.Fitted.{InRoom, Placed, value_at};
@@ -58,8 +59,9 @@ fn last_of(table: Table, change: Change) -> u32
 // The value at a step.
 fn value_at(change: Change, last: u32, step: u32) -> u32
     requires room { last ≤ 65535000 }
-    requires within { step ≤ last }
-    ensures { result ≡ value_at change last step }
+    requires within { (1 ≤ step) × (step ≤ last) }
+    ensures same { result ≡ value_at change last step }
+    ensures some { 1 ≤ result }
 {
     if asks_least(change) {
         return last + 1 - step;
@@ -76,19 +78,19 @@ fn holds_at(table: Table, change: Change, rule: Rule, last: u32, step: u32) -> b
 {
     let value = value_at(change, last, step);
     let changed = changing::changed(table, change, value);
-    analysis::meets_by(changed, rule).yes
+    analysis::meets_by(changed, rule).unwrap_or(false)
 }
 
-// The margin of a good table, or 0. Where the easiest value does not hold there is none; where it does, what lies between a step that holds and one that does not
+// The margin of a good table, where it has one. Where the easiest value does not hold there is none; where it does, what lies between a step that holds and one that does not
 // is halved until nothing lies between: at most sixteen verdicts more for a field, and 26 for the factor.
-pub fn found(table: Table, change: Change, rule: Rule) -> u32
+pub fn found(table: Table, change: Change, rule: Rule) -> Option<u32>
     requires good { rule_refusal rule table ≡ 0 }
     requires placed { Placed table change }
-    ensures { result ≡ margin_of rule table change }
+    ensures { result ≡ some_of (margin_of rule table change) }
 {
     let last = last_of(table, change);
     if !holds_at(table, change, rule, last, 1) {
-        return 0;
+        return None;
     }
     let mut holds: u32 = 1;
     let mut fails: u32 = last + 1;
@@ -100,5 +102,5 @@ pub fn found(table: Table, change: Change, rule: Rule) -> u32
             fails = middle;
         }
     }
-    value_at(change, last, holds)
+    Some(value_at(change, last, holds))
 }

@@ -2,7 +2,8 @@
 use Rattle.std.specs.Prelude.{ℕ, cond, List, [], ◌++◌, eqb, ltb, length, drop}
 use Rattle.places.specs.Refusals.{or_else}
 use Rattle.sheet.specs.Rules.{sheet_refusal}
-use Rattle.mend.specs.declared.Mending.{Mending}
+use Rattle.mend.specs.declared.Mending as told
+use Rattle.mend.specs.Told.{Mending}
 use Rattle.mend.specs.Mended.{mended}
 use Rattle.mend.specs.Changes.{changes_of, held}
 
@@ -18,6 +19,10 @@ mend_answer sheet out =
       written = cond (eqb (mend_refusal sheet out) 0) (length (mended sheet)) 0;
       changes = held (cond (eqb (mend_refusal sheet out) 0) (changes_of sheet) []);
     }
+
+-- what stands beside the refusal alone
+abbrev pub mending_told : Mending → told.Mending
+mending_told mending = record { written = mending.written; changes = mending.changes }
 
 -- the output after `mend`: the mended sheet and then the bytes as they were, or all of it as it was
 unfoldable pub mend_leaves : List ℕ → List ℕ → List ℕ

@@ -1,5 +1,5 @@
 -- What the private functions compute on the way, in the form in which they compute it; laws tie it to the definitions before. No public promise cites it.
-use Rattle.std.specs.Prelude.{ℕ, ◌+◌, cond, List, [], ◌++◌, eqb, length, set}
+use Rattle.std.specs.Prelude.{ℕ, ◌+◌, cond, List, ◌++◌, eqb, length, set}
 use Rattle.places.specs.Places.{joined_below, filled_below}
 use Rattle.sheet.specs.declared.Record.{Record}
 use Rattle.sheet.specs.declared.Table.{Table}
@@ -7,9 +7,8 @@ use Rattle.sheet.specs.Layout.{said_size, record_at}
 use Rattle.mend.specs.declared.Field.TheVariants.{Length}
 use Rattle.mend.specs.declared.Change.{Change}
 use Rattle.mend.specs.declared.Changes.{Changes}
-use Rattle.mend.specs.declared.Mending.{Mending}
 use Rattle.mend.specs.Mended.{mended_record, is_complete}
-use Rattle.mend.specs.Changes.{listed, deadline_change, fault_change, record_changes, held}
+use Rattle.mend.specs.Changes.{listed, deadline_change, fault_change, record_changes}
 
 -- how many bytes of a sheet are kept
 unfoldable pub kept_of : List ℕ → ℕ
@@ -38,7 +37,3 @@ noted_record changes place r = noted (noted changes (deadline_change place r)) (
 unfoldable pub table_changes : ℕ → ℕ → Table → List Change
 table_changes old new t =
     listed (record { place = 0; field = Length; old = old; new = new }) ++ joined_below (λ place. record_changes (place + 1) (record_at t.records place)) t.count
-
--- a refusal with nothing beside it
-unfoldable pub refused_with : ℕ → Mending
-refused_with refusal = record { refusal = refusal; written = 0; changes = held [] }

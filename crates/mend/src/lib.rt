@@ -1,11 +1,13 @@
 // Hand-typed sheets mended: bytes after the last record cut, deadlines brought down to their period, fault priorities brought to the task's
 // own; each change listed, and nothing else touched.
-// The call answers any bytes; a refusal gives its number, and zeros and an empty list beside it.
+// The call answers any bytes; where a rule is still broken, with the refusal of the first.
 #![tactic(auto)]
 
 ghost use Rattle.std.specs.Prelude.{◌≡◌};
-ghost use Rattle.mend.specs.Answers.{mend_answer, mend_leaves};
-ghost use Rattle.mend.specs.Steps.{refused_with};
+ghost use Rattle.places.specs.Answered.{answered};
+ghost use Rattle.mend.specs.Answers.{mend_answer, mend_leaves, mending_told};
+
+use places::refusal::Refusal;
 
 mod listing;
 mod records;
@@ -34,43 +36,21 @@ pub struct Changes {
     pub list: [Change; 17],
 }
 
-// What `mend` answers: the refusal, or 0 beside the number of bytes written and the changes.
+// What `mend` answers where nothing is refused: the number of bytes written and the changes.
 #[derive(Clone, Copy)]
 pub struct Mending {
-    pub refusal: u8,
     pub written: usize,
     pub changes: Changes,
 }
 
-// A refusal with nothing beside it.
-fn refused(refusal: u8) -> Mending
-    ensures { result ≡ refused_with refusal }
-{
-    Mending {
-        refusal,
-        written: 0,
-        changes: listing::none(),
-    }
-}
-
 // Writes the mended sheet at the start of the output.
-pub fn mend(sheet: &[u8], out: &mut [u8]) -> Mending
-    ensures answer { result ≡ mend_answer sheet.now out.old }
+pub fn mend(sheet: &[u8], out: &mut [u8]) -> Result<Mending, Refusal>
+    ensures answer { result ≡ answered (mend_answer sheet.now out.old).refusal (mending_told (mend_answer sheet.now out.old)) }
     ensures leaves { out.new ≡ mend_leaves sheet.now out.old }
 {
     let end = records::kept(sheet);
-    let reading = sheet::read_unjudged(&sheet[..end]);
-    if reading.refusal != 0 {
-        return refused(reading.refusal);
-    }
-    let table = reading.table;
-    let writing = sheet::write(records::mended_table(table), out);
-    if writing.refusal != 0 {
-        return refused(writing.refusal);
-    }
-    Mending {
-        refusal: 0,
-        written: writing.written,
-        changes: listing::changes_of(sheet.len(), end, table),
-    }
+    let table = sheet::read_unjudged(&sheet[..end])?;
+    let written = sheet::write(records::mended_table(table), out)?;
+    let changes = listing::changes_of(sheet.len(), end, table);
+    Ok(Mending { written, changes })
 }

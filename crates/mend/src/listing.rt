@@ -73,10 +73,8 @@ pub fn changes_of(old: usize, new: usize, table: Table) -> Changes
         new: new as u64,
     };
     let mut changes = noted(none(), cut);
-    let mut place: u8 = 0;
-    while place < table.count {
+    for place in 0..table.count {
         changes = with_record(changes, place + 1, records[place as usize]);
-        place += 1;
     }
     changes
 }

@@ -11,11 +11,10 @@ pub fn kept(sheet: &[u8]) -> usize
     ensures inside { result ≤ length sheet.now }
 {
     let whole = sheet.len();
-    let said = sheet::said_size(sheet);
-    if said.refusal != 0 {
-        return whole;
+    match sheet::said_size(sheet) {
+        Ok(size) => if size < whole { size } else { whole },
+        Err(_) => whole,
     }
-    if said.size < whole { said.size } else { whole }
 }
 
 // A deadline brought down to its period where it is above it.
@@ -40,12 +39,9 @@ fn mended_record(task: Record) -> Record
     ensures { result ≡ mended_record task }
 {
     Record {
-        cost: task.cost,
-        backup: task.backup,
         deadline: mended_deadline(task.deadline, task.period),
-        period: task.period,
-        priority: task.priority,
         fault_priority: mended_fault(task.fault_priority, task.priority),
+        ..task
     }
 }
 
@@ -55,16 +51,8 @@ pub fn mended_table(table: Table) -> Table
 {
     let typed = table.records;
     let mut records = typed;
-    let mut place: usize = 0;
-    while place < 8 {
+    for place in 0..8 {
         records[place] = mended_record(typed[place]);
-        place += 1;
     }
-    Table {
-        count: table.count,
-        interval: table.interval,
-        round: table.round,
-        share: table.share,
-        records,
-    }
+    Table { records, ..table }
 }

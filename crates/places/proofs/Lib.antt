@@ -2,6 +2,7 @@
 pub mod Tells
 pub mod Agree
 pub mod Turns
+pub mod Chains
 pub mod Some
 pub mod Counted
 pub mod Summed
@@ -12,5 +13,7 @@ pub mod Onto
 pub mod Gathered
 pub mod Search
 pub mod Refusals
+pub mod Answered
 pub mod Order
 pub mod Difference
+pub mod Unique

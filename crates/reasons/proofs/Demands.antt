@@ -24,7 +24,7 @@ use Rattle.analysis.proofs.Demands.{IsLeast, solution-least, solution-none}
 use Rattle.analysis.proofs.Laws.ByRule.{rule-good}
 use Rattle.analysis.proofs.Laws.ByEquation.{asked-rises}
 use Rattle.analysis.proofs.Laws.Common.Verdicts.{on-time-within}
-use Rattle.reasons.specs.declared.Reason.{Reason}
+use Rattle.reasons.specs.Told.{Reason}
 use Rattle.reasons.specs.declared.Tip.TheVariants.{Nothing}
 use Rattle.reasons.specs.Deciding.{decides, length_of}
 use Rattle.reasons.specs.Terms.{own_backup, task_terms, fault_term, supplier_term, meant_backup, largest_of, whose_of}
@@ -43,6 +43,15 @@ reason-refused rule t place refused = simp (ne_eqb (place_refusal rule t place) 
 pub reason-given : (rule : Rule) (t : Table) (place : ℕ) → place_refusal rule t place ≡ 0 → reason_of rule t place ≡ explained (decides rule (own_tasks t) place) (time_of (decides rule (own_tasks t) place) (own_tasks t) place) t place
 unfolding reason_of
 reason-given rule t place fine = simp (eq-eqb (place_refusal rule t place) 0 fine)
+
+-- so it is refused as the rule says
+pub reason-refusal : (rule : Rule) (t : Table) (place : ℕ) → (reason_of rule t place).refusal ≡ place_refusal rule t place
+unfolding explained
+reason-refusal rule t place = go (ℕ_discrete (place_refusal rule t place) 0)
+  where
+    go : Dec (place_refusal rule t place ≡ 0) → (reason_of rule t place).refusal ≡ place_refusal rule t place
+    go (yes fine) = ap (λ (r : Reason). r.refusal) (reason-given rule t place fine) ∙ sym fine
+    go (no refused) = ap (λ (r : Reason). r.refusal) (reason-refused rule t place refused)
 
 -- what is told of a record of a good table by an equation
 module _ (t : Table) (good : table_refusal t ≡ 0) (place : ℕ) (here : place < t.count) (equation : Equation) where

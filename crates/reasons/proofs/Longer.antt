@@ -1,24 +1,27 @@
 -- The equation that decides has the longer of the two times, and that is the time by the rule. Assumes nothing.
-use Prim.Native.Nat.{ℕ, ◌<◌, max}
+use Prim.Native.Nat.{ℕ, ◌≤◌, ◌<◌, max}
 use mathlib.Core.Path.{◌≡◌, refl, sym, ap, ap₂, ◌∙◌, subst}
 use mathlib.Core.Bool.{Bool, true, false, cond, ◌||◌}
 use native.Mathlib.Decide.{ℕ_discrete, dec_lt}
 use native.Mathlib.Omega.{arith}
 use borrow.Author.Tests.{eq-eqb, ne_eqb, lt-ltb, le-ltb}
 use lib.Dec.{eqb}
+use Rattle.std.specs.Prelude.{Option, Ok, IfSome, unwrap_or}
+use Rattle.places.specs.Answered.{answered}
+use Rattle.places.proofs.Answered.{good_of, value_of}
 use Rattle.sheet.specs.declared.Table.{Table}
 use Rattle.analysis.specs.declared.Rule.{Rule}
 use Rattle.analysis.specs.declared.Rule.TheVariants.{Published, Assured}
 use Rattle.analysis.specs.declared.Equation.{Equation}
 use Rattle.analysis.specs.declared.Equation.TheVariants.{Elsewhere, Itself}
-use Rattle.analysis.specs.declared.Solution.{Solution}
+use Rattle.analysis.specs.Told.{some_of}
 use Rattle.analysis.specs.Common.Tasks.{Tasks}
 use Rattle.analysis.specs.Common.Entries.{own_tasks}
 use Rattle.analysis.specs.Published.Response.{time_elsewhere, time_itself, response_within, response_time}
 use Rattle.analysis.specs.ByRule.{time_by, place_refusal}
 use Rattle.analysis.specs.ByEquation.{rule_of, time_of, solution_of}
 use Rattle.analysis.proofs.Laws.Common.Easier.{NoLater}
-use Rattle.reasons.specs.Deciding.{is_longer, decides}
+use Rattle.reasons.specs.Deciding.{is_longer, decides, decided_of}
 
 -- the longer of two times, of which 0 is none: none where one of them is, else the larger
 longer-of : (a b : ℕ) → cond (is_longer a b) b a ≡ cond (eqb a 0 || eqb b 0) 0 (max a b)
@@ -80,20 +83,47 @@ decides-rule Published s i = go (is_longer (time_of Elsewhere s i) (time_of Itse
     go false = refl
 decides-rule Assured s i = refl
 
--- what `time_of` answers: the refusal of the equation's rule, and where there is none the equation's time
-module _ (equation : Equation) (t : Table) (place : ℕ) {solution : Solution} (e : solution ≡ solution_of equation t place) where
-  pub solved-refusal : solution.refusal ≡ place_refusal (rule_of equation) t place
-  unfolding solution_of
-  solved-refusal = ap (λ (a : Solution). a.refusal) e
+-- a number that is some, told as such
+pub some-told : (n : ℕ) → unwrap_or (some_of n) 0 ≡ n
+unfolding some_of
+some-told n = go (ℕ_discrete n 0)
+  where
+    go : Dec (n ≡ 0) → unwrap_or (some_of n) 0 ≡ n
+    go (yes none) = rw (eq-eqb n 0 none) (sym none)
+    go (no some) = rw (ne_eqb n 0 some) refl
 
-  pub solved-time : solution.refusal ≡ 0 → solution.time ≡ time_of equation (own_tasks t) place
+pub some-kept : (n : ℕ) → IfSome (some_of n) (λ time. 1 ≤ time)
+unfolding some_of
+some-kept n = go (ℕ_discrete n 0)
+  where
+    go : Dec (n ≡ 0) → IfSome (some_of n) (λ time. 1 ≤ time)
+    go (yes none) = rw (eq-eqb n 0 none) tt
+    go (no some) = rw (ne_eqb n 0 some) (omega arith)
+
+-- what `time_of` answers where it is not refused: the equation's time
+module _ (equation : Equation) (t : Table) (place : ℕ) {time : Option ℕ} (e : Ok time ≡ answered (solution_of equation t place).refusal (some_of (solution_of equation t place).time)) where
+  pub solved-good : place_refusal (rule_of equation) t place ≡ 0
   unfolding solution_of
-  solved-time good = ap (λ (a : Solution). a.time) e ∙ simp (eq-eqb (place_refusal (rule_of equation) t place) 0 (sym solved-refusal ∙ good))
+  solved-good = good_of _ _ e
+
+  pub solved-time : time ≡ some_of (time_of equation (own_tasks t) place)
+  unfolding solution_of
+  solved-time = value_of _ _ e ∙ simp (eq-eqb (place_refusal (rule_of equation) t place) 0 solved-good)
+
+  pub solved-some : IfSome time (λ n. 1 ≤ n)
+  solved-some = subst (λ (o : Option ℕ). IfSome o (λ n. 1 ≤ n)) (sym solved-time) (some-kept (time_of equation (own_tasks t) place))
+
+-- an equation that decides, beside its time
+pub decided-is : (rule : Rule) (t : Table) (place : ℕ) (equation : Equation) {time : Option ℕ} → equation ≡ decides rule (own_tasks t) place → time ≡ some_of (time_of equation (own_tasks t) place)
+    → record { equation = equation; time = time } ≡ decided_of rule t place
+unfolding decided_of
+decided-is rule t place equation decided its =
+    ap₂ (λ (e : Equation) (o : Option ℕ). record { equation = e; time = o }) decided (its ∙ ap (λ (e : Equation). some_of (time_of e (own_tasks t) place)) decided)
 
 -- the equation whose time is the longer of the two answered decides
-pub longer-decides : (t : Table) (place : ℕ) {a b : Solution} → a ≡ solution_of Elsewhere t place → b ≡ solution_of Itself t place → {x : Bool} → is_longer a.time b.time ≡ x
-    → place_refusal Published t place ≡ 0 → cond x Itself Elsewhere ≡ decides Published (own_tasks t) place
-unfolding decides rule_of
-longer-decides t place elsewhere itself is good =
+pub longer-decides : (t : Table) (place : ℕ) {a b : Option ℕ} → a ≡ some_of (time_of Elsewhere (own_tasks t) place) → b ≡ some_of (time_of Itself (own_tasks t) place) → {x : Bool} → is_longer (unwrap_or a 0) (unwrap_or b 0) ≡ x
+    → cond x Itself Elsewhere ≡ decides Published (own_tasks t) place
+unfolding decides
+longer-decides t place elsewhere itself is =
     ap (λ (x : Bool). cond x Itself Elsewhere)
-    (sym is ∙ ap₂ is_longer (solved-time Elsewhere t place elsewhere (solved-refusal Elsewhere t place elsewhere ∙ good)) (solved-time Itself t place itself (solved-refusal Itself t place itself ∙ good)))
+    (sym is ∙ ap₂ is_longer (ap (λ (o : Option ℕ). unwrap_or o 0) elsewhere ∙ some-told _) (ap (λ (o : Option ℕ). unwrap_or o 0) itself ∙ some-told _))

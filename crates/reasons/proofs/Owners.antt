@@ -9,9 +9,8 @@ use borrow.Author.Tests.{lt-ltb, le-ltb}
 use lib.Dec.{ltb}
 use Rattle.places.specs.Places.{most_below}
 use Rattle.places.proofs.Largest.{most-part}
-use Rattle.reasons.specs.declared.Whose.{Whose}
-use Rattle.reasons.specs.declared.Whose.TheVariants.{Nobody, At}
-use Rattle.reasons.specs.declared.striking.Strike.{Strike}
+use Rattle.reasons.specs.Told.{Whose, Strike}
+use Rattle.reasons.specs.Told.Whose.{Nobody, At}
 use Rattle.reasons.specs.Terms.{owner_below}
 use Rattle.reasons.specs.Strikes.{strike_below, larger_of}
 

@@ -29,10 +29,10 @@ use Rattle.analysis.specs.ByRule.{rule_refusal, place_refusal}
 use Rattle.analysis.specs.ByEquation.{asked_by, time_of}
 use Rattle.analysis.proofs.Demands.{solution-none}
 use Rattle.analysis.proofs.Laws.Published.EachTick.{itself-never}
-use Rattle.reasons.specs.declared.Reason.{Reason}
+use Rattle.reasons.specs.Told.{Reason}
 use Rattle.reasons.specs.declared.Term.{Term}
 use Rattle.reasons.specs.declared.Tip.TheVariants.{Nothing, Task, Faults, Supplier}
-use Rattle.reasons.specs.declared.Whose.TheVariants.{At}
+use Rattle.reasons.specs.Told.Whose.{At}
 use Rattle.reasons.specs.Deciding.{is_longer, decides, length_of}
 use Rattle.reasons.specs.Terms.{own_backup, times_of, task_terms, no_term, is_meant, meant_backup, owner_below, largest_of, whose_of, faults_of, supplier_term}
 use Rattle.reasons.specs.Adding.{amount, added, own_added, tasks_added, total_of}

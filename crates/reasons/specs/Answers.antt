@@ -8,9 +8,9 @@ use Rattle.analysis.specs.declared.Equation.TheVariants.{Elsewhere}
 use Rattle.analysis.specs.Common.Entries.{own_tasks, is_late}
 use Rattle.analysis.specs.ByRule.{place_refusal}
 use Rattle.analysis.specs.ByEquation.{time_of}
-use Rattle.reasons.specs.declared.Reason.{Reason}
+use Rattle.reasons.specs.Told.{Reason}
 use Rattle.reasons.specs.declared.Tip.TheVariants.{Nothing}
-use Rattle.reasons.specs.declared.Whose.TheVariants.{Nobody}
+use Rattle.reasons.specs.Told.Whose.{Nobody}
 use Rattle.reasons.specs.Deciding.{decides, length_of}
 use Rattle.reasons.specs.Terms.{own_backup, task_terms, no_term, whose_of, fault_term, supplier_term}
 use Rattle.reasons.specs.Adding.{total_of}

@@ -1,5 +1,5 @@
 -- Which equation decides the time of record i, and the length that its terms are told at.
-use Rattle.std.specs.Prelude.{ℕ, ◌+◌, ◌≡◌, Bool, cond, not, ◌&&◌, ◌||◌, eqb, ltb}
+use Rattle.std.specs.Prelude.{ℕ, ◌+◌, Bool, cond, not, ◌&&◌, ◌||◌, eqb, ltb}
 use Rattle.sheet.specs.declared.Table.{Table}
 use Rattle.analysis.specs.declared.Rule.{Rule}
 use Rattle.analysis.specs.declared.Rule.TheVariants.{Published, Assured}
@@ -7,7 +7,7 @@ use Rattle.analysis.specs.declared.Equation.{Equation}
 use Rattle.analysis.specs.declared.Equation.TheVariants.{Elsewhere, Itself, Assurance}
 use Rattle.analysis.specs.Common.Tasks.{Tasks}
 use Rattle.analysis.specs.Common.Entries.{own_tasks}
-use Rattle.analysis.specs.ByRule.{place_refusal}
+use Rattle.analysis.specs.Told.{some_of}
 use Rattle.analysis.specs.ByEquation.{time_of}
 use Rattle.reasons.specs.declared.deciding.Decided.{Decided}
 
@@ -24,8 +24,8 @@ decides Assured s i = Assurance
 unfoldable pub length_of : ℕ → ℕ → ℕ
 length_of deadline time = cond (eqb time 0) (deadline + 1) time
 
--- what the code finds first: the refusal, and where there is none the equation that decides beside its time. An inner device; no public promise cites it
-pub record DecidedBy (rule : Rule) (t : Table) (place : ℕ) (d : Decided) : Type 0 where
-  pub refusal : d.refusal ≡ place_refusal rule t place
-  pub equation : d.refusal ≡ 0 → d.equation ≡ decides rule (own_tasks t) place
-  pub time : d.refusal ≡ 0 → d.time ≡ time_of d.equation (own_tasks t) place
+-- what the code finds first of a record that is not refused: the equation that decides beside its time, where it has one. An inner device; no public promise cites it
+unfoldable pub decided_of : Rule → Table → ℕ → Decided
+decided_of rule t place =
+    let equation = decides rule (own_tasks t) place in
+    record { equation = equation; time = some_of (time_of equation (own_tasks t) place) }

@@ -1,8 +1,8 @@
 -- The largest backup beside whose it is, as the code finds both place by place. An inner device, tied to the terms by a law; no public promise cites it.
 use Rattle.std.specs.Prelude.{ℕ, max, cond, ltb}
 use Rattle.places.specs.Places.{most_below}
-use Rattle.reasons.specs.declared.Whose.TheVariants.{At}
-use Rattle.reasons.specs.declared.striking.Strike.{Strike}
+use Rattle.reasons.specs.Told.Whose.{At}
+use Rattle.reasons.specs.Told.{Strike}
 use Rattle.reasons.specs.Terms.{owner_below}
 
 -- the largest value of the places below n, and the first place that has it

@@ -10,8 +10,8 @@ use Rattle.analysis.specs.Common.Backups.{others}
 use Rattle.analysis.specs.Published.Equations.{is_between}
 use Rattle.analysis.specs.Assured.Equation.{is_over, is_ahead}
 use Rattle.reasons.specs.declared.Term.{Term}
-use Rattle.reasons.specs.declared.Whose.{Whose}
-use Rattle.reasons.specs.declared.Whose.TheVariants.{Nobody, At}
+use Rattle.reasons.specs.Told.{Whose}
+use Rattle.reasons.specs.Told.Whose.{Nobody, At}
 
 -- "B of i", which only struck itself has
 unfoldable pub own_backup : Equation → Record → ℕ

@@ -60,11 +60,9 @@ fn with_tasks(total: Total, tasks: [Term; 8], deadline: u16) -> Total
     ensures small { result.sum ≤ 2251765453553670 }
 {
     let mut so_far = total;
-    let mut place: usize = 0;
-    while place < 8 {
+    for place in 0..8 {
         let ticks = amount(tasks[place].times, tasks[place].ticks);
         so_far = added(so_far, Tip::Task(place), ticks, deadline);
-        place += 1;
     }
     so_far
 }

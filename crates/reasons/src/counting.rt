@@ -76,13 +76,11 @@ pub fn tasks_of(table: Table, place: usize, equation: Equation, length: u32) -> 
     ensures { result ≡ task_terms equation (own_tasks table) place length }
 {
     let mut tasks = [no_term(); 8];
-    let mut other: usize = 0;
-    while other < table.count as usize {
+    for other in 0..table.count as usize {
         tasks[other] = Term {
             times: times_of(table, place, other, equation, length),
             ticks: table.records[other].cost,
         };
-        other += 1;
     }
     tasks
 }

@@ -1,12 +1,15 @@
 // Why a record's time is what it is: the equation that decides, its terms at the time, and the term that makes a late task late. Under the table's own fault priorities, by a rule.
-// The call answers any table: a refused one gets its number beside zeros.
+// The call answers any table: a refused one gets its refusal.
 #![tactic(auto)]
 
-ghost use Rattle.std.specs.Prelude.{◌≡◌, ◌<◌};
+ghost use Rattle.std.specs.Prelude.{◌≡◌, ◌≤◌, ◌<◌, IfSome, unwrap_or};
+ghost use Rattle.places.specs.Answered.{answered};
 ghost use Rattle.sheet.specs.Rules.{table_refusal};
-ghost use Rattle.reasons.specs.Answers.{explained, no_reason, reason_of};
+ghost use Rattle.reasons.specs.Told.{reason_told};
+ghost use Rattle.reasons.specs.Answers.{explained, reason_of};
 
 use analysis::{Equation, Rule};
+use places::refusal::Refusal;
 use sheet::Table;
 
 mod adding;
@@ -21,13 +24,6 @@ pub struct Term {
     pub ticks: u16,
 }
 
-// Whose backup is the largest of those that count: nobody's, or that of the record at a place.
-#[derive(Clone, Copy)]
-pub enum Whose {
-    Nobody,
-    At(usize),
-}
-
 // The term with which the sum is past the deadline: none, the own cost, the own backup, the cost of the record at a place, the faults' backups, or the supplier's ticks.
 #[derive(Clone, Copy)]
 pub enum Tip {
@@ -39,12 +35,11 @@ pub enum Tip {
     Supplier,
 }
 
-// What `why` answers: the refusal, or 0 beside the equation that decides, the length and the deadline, the terms at that length (the own cost; the own backup, 0 where the equation
-// does not have it; each record's cost at its place, 0 times where it does not count; the faults' backup, and whose it is; the supplier's ticks), their sum,
+// What `why` answers: the equation that decides, the length and the deadline, the terms at that length (the own cost; the own backup, 0 where the equation
+// does not have it; each record's cost at its place, 0 times where it does not count; the faults' backup, and the place of the record whose it is, if it is any's; the supplier's ticks), their sum,
 // whether the task is late, and the term that tips it.
 #[derive(Clone, Copy)]
 pub struct Reason {
-    pub refusal: u8,
     pub equation: Equation,
     pub length: u32,
     pub deadline: u16,
@@ -52,39 +47,19 @@ pub struct Reason {
     pub backup: u16,
     pub tasks: [Term; 8],
     pub faults: Term,
-    pub whose: Whose,
+    pub whose: Option<usize>,
     pub supplier: Term,
     pub sum: u64,
     pub late: bool,
     pub tip: Tip,
 }
 
-// The answer of a refused call.
-fn none(refusal: u8) -> Reason
-    ensures { result ≡ no_reason refusal }
-{
-    Reason {
-        refusal,
-        equation: Equation::Elsewhere,
-        length: 0,
-        deadline: 0,
-        cost: 0,
-        backup: 0,
-        tasks: [counting::no_term(); 8],
-        faults: counting::no_term(),
-        whose: Whose::Nobody,
-        supplier: counting::no_term(),
-        sum: 0,
-        late: false,
-        tip: Tip::Nothing,
-    }
-}
-
 // Why the record at a place of a good table takes a time, or has none, by an equation.
-fn explain(table: Table, place: usize, equation: Equation, time: u16) -> Reason
+fn explain(table: Table, place: usize, equation: Equation, time: Option<u16>) -> Reason
     requires good { table_refusal table ≡ 0 }
     requires here { place < table.count }
-    ensures { result ≡ explained equation time table place }
+    requires some { IfSome time (λ time. 1 ≤ time) }
+    ensures { result ≡ reason_told (explained equation (unwrap_or time 0) table place) }
 {
     let own = table.records[place];
     let deadline = own.deadline;
@@ -101,7 +76,6 @@ fn explain(table: Table, place: usize, equation: Equation, time: u16) -> Reason
     let total = adding::total_of(deadline, own.cost, backup, tasks, faults, supplier);
     let tip = total.tip;
     Reason {
-        refusal: 0,
         equation,
         length,
         deadline,
@@ -119,13 +93,9 @@ fn explain(table: Table, place: usize, equation: Equation, time: u16) -> Reason
 
 // Why the record at a place takes its time by a rule: the equation that decides, its terms at that time, or at the first length past the deadline where there is none up to 65,535,
 // their sum, and the term that tips a late task.
-pub fn why(table: Table, place: usize, rule: Rule) -> Reason
-    ensures { result ≡ reason_of rule table place }
+pub fn why(table: Table, place: usize, rule: Rule) -> Result<Reason, Refusal>
+    ensures { result ≡ answered (reason_of rule table place).refusal (reason_told (reason_of rule table place)) }
 {
-    let decided = deciding::decide(table, place, rule);
-    if decided.refusal != 0 {
-        return none(decided.refusal);
-    }
-    let equation = decided.equation;
-    explain(table, place, equation, decided.time)
+    let decided = deciding::decide(table, place, rule)?;
+    Ok(explain(table, place, decided.equation, decided.time))
 }

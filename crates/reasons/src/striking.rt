@@ -2,10 +2,10 @@
 ghost use Rattle.std.specs.Prelude.{◌≡◌, ◌<◌};
 ghost use Rattle.sheet.specs.Rules.{table_refusal};
 ghost use Rattle.analysis.specs.Common.Entries.{own_tasks};
+ghost use Rattle.reasons.specs.Told.{strike_told};
 ghost use Rattle.reasons.specs.Terms.{own_backup, is_meant, meant_backup};
-ghost use Rattle.reasons.specs.Strikes.{strike_below, larger_of};
+ghost use Rattle.reasons.specs.Strikes.{strike_below};
 
-use crate::Whose;
 use analysis::Equation;
 use sheet::{Record, Table};
 
@@ -13,7 +13,7 @@ use sheet::{Record, Table};
 #[derive(Clone, Copy)]
 pub struct Strike {
     pub backup: u16,
-    pub whose: Whose,
+    pub whose: Option<usize>,
 }
 
 // The own backup of a task, 0 where the equation does not have it.
@@ -47,19 +47,6 @@ fn is_meant(table: Table, place: usize, other: usize, equation: Equation) -> boo
     }
 }
 
-// The larger of the largest so far and the backup of the record at a place.
-fn larger(strike: Strike, backup: u16, place: usize) -> Strike
-    ensures { result ≡ larger_of strike backup place }
-{
-    if strike.backup < backup {
-        return Strike {
-            backup,
-            whose: Whose::At(place),
-        };
-    }
-    strike
-}
-
 // The backup of the record at another place if it counts, else 0.
 fn backup_of(table: Table, place: usize, other: usize, equation: Equation) -> u16
     requires good { table_refusal table ≡ 0 }
@@ -77,16 +64,20 @@ fn backup_of(table: Table, place: usize, other: usize, equation: Equation) -> u1
 pub fn largest(table: Table, place: usize, equation: Equation) -> Strike
     requires good { table_refusal table ≡ 0 }
     requires here { place < table.count }
-    ensures { result ≡ strike_below (meant_backup equation (own_tasks table) place) table.count }
+    ensures { result ≡ strike_told (strike_below (meant_backup equation (own_tasks table) place) table.count) }
 {
     let mut strike = Strike {
         backup: 0,
-        whose: Whose::Nobody,
+        whose: None,
     };
-    let mut other: usize = 0;
-    while other < table.count as usize {
-        strike = larger(strike, backup_of(table, place, other, equation), other);
-        other += 1;
+    for other in 0..table.count as usize {
+        let backup = backup_of(table, place, other, equation);
+        if strike.backup < backup {
+            strike = Strike {
+                backup,
+                whose: Some(other),
+            };
+        }
     }
     strike
 }

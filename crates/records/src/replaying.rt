@@ -6,40 +6,30 @@ use replay::{Checked, Counts, Following};
 use report::{Name, Saying};
 use sources::inputs;
 use std::io::Error;
+use streams::endings::Ending;
 use streams::words::Asked;
-use streams::{endings, input, parts, words};
-
-// A log of a sheet, or a record, before its first byte.
-fn before(given: Given, is_record: bool) -> Following {
-    let bytes = given.bytes;
-    let length = parts::part(given.length, &bytes);
-    if is_record {
-        return Following::record(&bytes[..length]);
-    }
-    Following::log(&bytes[..length])
-}
+use streams::{endings, input, words};
 
 // Prints the seven counts.
 fn print(rt: HostRuntime, counts: Counts) -> Result<(), Error> {
-    let mut buffer = io::buffer();
-    let attempts = report::named_line(Name::Attempts, counts.first_attempts);
-    let end = report::put_line(attempts, &mut buffer, 0);
-    let backups = report::named_line(Name::Backups, counts.backups);
-    let end = report::put_line(backups, &mut buffer, end);
-    let idle = report::named_line(Name::Idle, counts.idle);
-    let end = report::put_line(idle, &mut buffer, end);
-    let released = report::named_line(Name::Released, counts.released);
-    let end = report::put_line(released, &mut buffer, end);
-    let finished = report::named_line(Name::Finished, counts.finished);
-    let end = report::put_line(finished, &mut buffer, end);
-    let missed = report::named_line(Name::Missed, counts.missed);
-    let end = report::put_line(missed, &mut buffer, end);
-    let unfinished = report::named_line(Name::Unfinished, counts.unfinished);
-    output::finish(rt, &mut buffer, end, unfinished)
+    let stream = rt.stdout();
+    let mut page = output::EMPTY;
+    for (name, count) in [
+        (Name::Attempts, counts.first_attempts),
+        (Name::Backups, counts.backups),
+        (Name::Idle, counts.idle),
+        (Name::Released, counts.released),
+        (Name::Finished, counts.finished),
+        (Name::Missed, counts.missed),
+        (Name::Unfinished, counts.unfinished),
+    ] {
+        page.keep(&stream, report::named_line(name, count))?;
+    }
+    page.write(&stream)
 }
 
 // Answers a log that was read to its end.
-fn answer_log(rt: HostRuntime, given: Given, following: Following, is_explained: bool) -> u8 {
+fn answer_log(rt: HostRuntime, given: Given, following: Following, is_explained: bool) -> Ending {
     let replayed = following.replayed();
     if replayed.refusal != 0 {
         return refusals::print_of(rt, given, replayed.refusal, is_explained);
@@ -49,40 +39,51 @@ fn answer_log(rt: HostRuntime, given: Given, following: Following, is_explained:
 }
 
 // Answers a record that was read to its end.
-fn answer_record(rt: HostRuntime, given: Given, following: Following, is_explained: bool) -> u8 {
+fn answer_record(
+    rt: HostRuntime,
+    given: Given,
+    following: Following,
+    is_explained: bool,
+) -> Ending {
     match following.checked() {
         Checked::Refused(refusal) => refusals::print_of(rt, given, refusal, is_explained),
-        Checked::Accepted => output::line(
-            rt,
-            report::saying_line(Saying::Accepted),
-            endings::HOLDS,
-        ),
+        Checked::Accepted => output::line(rt, report::saying_line(Saying::Accepted), Ending::Holds),
         Checked::Differs(tick) => {
-            output::line(rt, report::named_line(Name::Differs, tick), endings::FAILS)
+            output::line(rt, report::named_line(Name::Differs, tick), Ending::Fails)
         }
     }
 }
 
-// Follows the log or the record that the second word names, of the sheet that the first one does.
-pub fn run(rt: HostRuntime, asked: Asked, is_record: bool) -> u8 {
+// Follows what the second word names, of the sheet that the first one does, from where it begins for that sheet, and answers it.
+fn follow<B, A>(rt: HostRuntime, asked: Asked, begin: B, answer: A) -> Ending
+where
+    B: Fn(&[u8]) -> Following,
+    A: Fn(HostRuntime, Given, Following, bool) -> Ending,
+    requires begin { B.IsAlwaysCallable begin }
+    requires answer { A.IsAlwaysCallable answer }
+{
     if asked.count != 2 {
         return words::trouble(b"replay takes SHEET and LOG, and check takes SHEET and RECORD");
     }
     if input::are_both_standard(rt, words::at(asked, 0), words::at(asked, 1)) {
         return words::standard_input_twice();
     }
-    let source = inputs::sheet_at(rt, asked, words::at(asked, 0));
-    if !source.is_taken {
-        return endings::TROUBLE;
-    }
+    let Some(source) = inputs::sheet_at(rt, asked, words::at(asked, 0)) else {
+        return Ending::Trouble;
+    };
     let given = source.given;
-    let read = following::read(rt, words::at(asked, 1), before(given, is_record));
-    if !read.is_read {
-        return endings::TROUBLE;
+    match following::read(rt, words::at(asked, 1), begin(given.sheet())) {
+        Some(following) => answer(rt, given, following, asked.is_explained),
+        None => Ending::Trouble,
     }
-    let following = read.following;
-    if is_record {
-        return answer_record(rt, given, following, asked.is_explained);
-    }
-    answer_log(rt, given, following, asked.is_explained)
+}
+
+// Replays the log that the second word names, of the sheet that the first one does.
+pub fn replay(rt: HostRuntime, asked: Asked) -> Ending {
+    follow(rt, asked, |sheet| Following::log(sheet), answer_log)
+}
+
+// Checks the record that the second word names, of the sheet that the first one does.
+pub fn check(rt: HostRuntime, asked: Asked) -> Ending {
+    follow(rt, asked, |sheet| Following::record(sheet), answer_record)
 }

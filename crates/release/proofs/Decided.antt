@@ -8,7 +8,7 @@ use borrow.Author.Tests.{eq-eqb, eqb-true, eqb-false}
 use lib.Dec.{eqb}
 use Rattle.sheet.specs.Layout.{table_of}
 use Rattle.sheet.specs.Rules.{sheet_refusal}
-use Rattle.release.specs.declared.Decision.{Decision}
+use Rattle.release.specs.Told.{Decision}
 use Rattle.release.specs.Rules.{some_outside}
 use Rattle.release.specs.Answers.{refused_with, is_loaded, decided, decision}
 

@@ -20,7 +20,7 @@ use Rattle.sheet.specs.Rules.{sheet_refusal}
 use Rattle.analysis.specs.declared.Outcome.TheVariants.{OnTime, Late}
 use Rattle.analysis.specs.Published.Response.{response_time, late, passes}
 use Rattle.analysis.specs.Common.Entries.{outcome_of, own_tasks}
-use Rattle.release.specs.declared.Decision.{Decision}
+use Rattle.release.specs.Told.{Decision}
 use Rattle.release.specs.Rules.{is_protected, some_outside, grows, outcome_at, grows_at, some_grows}
 use Rattle.release.specs.Answers.{is_loaded, decision, Handed}
 use Rattle.release.specs.Broken.{Protected}

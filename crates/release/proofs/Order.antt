@@ -2,11 +2,12 @@
 use Prim.Native.Nat.{ℕ, ◌≤◌, ◌<◌}
 use mathlib.Core.Path.{◌≡◌, refl, ap, ◌∙◌}
 use mathlib.Core.Bool.{Bool, true, false, cond, not}
-use mathlib.Core.Logic.{inl, inr}
+use mathlib.Core.Logic.{◌⊎◌, inl, inr}
 use mathlib.Core.List.{List, ◌++◌}
 use native.Mathlib.Omega.{arith}
 use lib.Dec.{eqb}
 use Rattle.places.specs.Refusals.{or_else, InOrder}
+use Rattle.places.proofs.Answered.{Known}
 use Rattle.places.proofs.Tells.{Tells, tells-iff, leb_tells, eqb_tells, not-tells, and-tells}
 use Rattle.places.proofs.Some.{some-tells}
 use Rattle.places.proofs.Order.{Says, says_none, says_row, says-wider, says-joined, in_order}
@@ -15,7 +16,7 @@ use Rattle.sheet.specs.Rules.{sheet_refusal}
 use Rattle.sheet.specs.Broken.{sheet_rows}
 use Rattle.sheet.proofs.Order.{rule-positive, sheet-says}
 use Rattle.release.specs.Rules.{is_protected, some_outside}
-use Rattle.release.specs.declared.Decision.{Decision}
+use Rattle.release.specs.Told.{Decision}
 use Rattle.release.specs.Answers.{decision}
 use Rattle.release.specs.Broken.{Protected, pair_rows, decision_rows, DecisionNumber}
 use Rattle.release.proofs.Decided.{tried, decision-tried}
@@ -63,3 +64,14 @@ module _ (in_use candidate : List ℕ) (protected : ℕ) where
       rw refusal_is
       (in_order number-positive
       (says-joined number-positive (sheet_rows in_use) (sheet_rows candidate ++ pair_rows in_use candidate protected) (says-wider (λ r k. inl k) (sheet-says in_use)) (says-joined number-positive (sheet_rows candidate) (pair_rows in_use candidate protected) (says-wider (λ r k. inl k) (sheet-says candidate)) pair-says)))
+
+  -- so it is a number of the tables
+  pub decision-known : Known (decision in_use candidate protected).refusal
+  decision-known = go decision-in-order.range
+    where
+      go : {r : ℕ} → (r ≡ 0) ⊎ DecisionNumber r → Known r
+      go (inl none) = inl none
+      go (inr (inl (inl few))) = inr (inl (few.0, omega (arith, few.1)))
+      go (inr (inl (inr is))) = inr (inl (omega (arith, is), omega (arith, is)))
+      go (inr (inr (inl is))) = inr (inl (omega (arith, is), omega (arith, is)))
+      go (inr (inr (inr is))) = inr (inl (omega (arith, is), omega (arith, is)))

@@ -1,13 +1,14 @@
 -- What each public call answers, refusals included.
-use Rattle.std.specs.Prelude.{ℕ, ◌≡◌, Bool, false, cond, not, ◌&&◌, List, [], eqb}
+use Rattle.std.specs.Prelude.{ℕ, ◌≡◌, Bool, false, cond, not, ◌&&◌, List, [], eqb, Result, Ok, Err}
 use Rattle.std.specs.Borrow.{Bor}
+use Rattle.places.specs.declared.refusal.Refusal.{Refusal}
+use Rattle.places.specs.Answered.{numbered}
 use Rattle.sheet.specs.declared.Table.{Table}
 use Rattle.sheet.specs.Layout.{table_of}
 use Rattle.sheet.specs.Rules.{sheet_refusal}
 use Rattle.analysis.specs.Published.Response.{passes}
 use Rattle.analysis.specs.Common.Entries.{own_tasks}
-use Rattle.release.specs.declared.Decision.{Decision}
-use Rattle.release.specs.declared.Loading.{Loading}
+use Rattle.release.specs.Told.{Decision}
 use Rattle.release.specs.Rules.{some_outside, some_grows}
 
 -- a refusal, with nothing to load
@@ -39,7 +40,8 @@ pub record Handed (in_use candidate : Bor (List ℕ)) (protected : ℕ) (part : 
       part.now
       ≡ cond (eqb (decision in_use.now candidate.now protected).refusal 0) (cond (decision in_use.now candidate.now protected).loads candidate.now in_use.now) []
 
--- `load`: the refusal of `decide` beside the part of `sheet_to_load`
-pub record Loaded (in_use candidate : Bor (List ℕ)) (protected : ℕ) (loading : Loading) : Type 0 where
-  pub refusal : loading.refusal ≡ (decision in_use.now candidate.now protected).refusal
-  pub part : Handed in_use candidate protected loading.part
+-- `load`: the part of `sheet_to_load` where nothing is refused, else the refusal of `decide`
+abbrev pub Loaded : Bor (List ℕ) → Bor (List ℕ) → ℕ → Result (Bor (List ℕ)) Refusal → Type 0
+Loaded in_use candidate protected (Ok part) = ((decision in_use.now candidate.now protected).refusal ≡ 0) × Handed in_use candidate protected part
+Loaded in_use candidate protected (Err refusal) =
+    ((decision in_use.now candidate.now protected).refusal ≡ 0 → ⊥) × (refusal ≡ numbered (decision in_use.now candidate.now protected).refusal)

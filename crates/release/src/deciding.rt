@@ -1,22 +1,15 @@
 // The release rule over two good tables: the counts, the protected places, the candidate's verdict, and responses that grow.
-ghost use Rattle.std.specs.Prelude.{◌≡◌, ◌<◌};
+ghost use Rattle.std.specs.Prelude.{◌≡◌, ◌<◌, ◌≤◌, ◌&&◌, get_or};
+ghost use Rattle.places.specs.Places.{some_below};
+ghost use Rattle.places.specs.Answered.{answered};
 ghost use Rattle.sheet.specs.Rules.{table_refusal};
-ghost use Rattle.release.specs.Rules.{is_protected, grows, grows_at, some_grows, some_outside};
-ghost use Rattle.release.specs.Answers.{refused_with, decided};
+ghost use Rattle.analysis.specs.Common.Entries.{no_entry};
+ghost use Rattle.release.specs.Rules.{is_protected, grows, some_outside};
+ghost use Rattle.release.specs.Answers.{decided};
 
-use crate::Decision;
-use analysis::Outcome;
+use analysis::{Entry, Outcome};
+use places::refusal::Refusal;
 use sheet::Table;
-
-// A refusal, with nothing to load.
-pub fn refused(refusal: u8) -> Decision
-    ensures { result ≡ refused_with refusal }
-{
-    Decision {
-        refusal,
-        loads: false,
-    }
-}
 
 // Whether the place is protected: its bit, place 0 lowest.
 fn is_protected(protected: u8, place: usize) -> bool
@@ -30,13 +23,7 @@ fn is_protected(protected: u8, place: usize) -> bool
 fn some_outside(protected: u8, count: usize) -> bool
     ensures { result ≡ some_outside protected count }
 {
-    let mut found = false;
-    let mut place: usize = 0;
-    while place < 8 {
-        found = found | ((count <= place) & is_protected(protected, place));
-        place += 1;
-    }
-    found
+    (0..8).any(|place| (count <= place) & is_protected(protected, place))
 }
 
 // Whether a response grows from one outcome to the other; late is longer than any time.
@@ -53,52 +40,35 @@ fn grows(before: Outcome, after: Outcome) -> bool
 }
 
 // Whether the response at a place grows from the table in use to the candidate's.
-fn grows_at(old: Table, new: Table, place: usize) -> bool
-    requires good_old { table_refusal old ≡ 0 }
-    requires good_new { table_refusal new ≡ 0 }
-    requires in_old { place < old.count }
-    requires in_new { place < new.count }
-    ensures { result ≡ grows_at old new place }
+fn grows_at(old: [Entry; 8], new: [Entry; 8], place: usize) -> bool
+    requires { place < 8 }
+    ensures { result ≡ grows (get_or old place no_entry).outcome (get_or new place no_entry).outcome }
 {
-    let first = analysis::response_time(old, place).entry;
-    let second = analysis::response_time(new, place).entry;
-    let before = first.outcome;
-    let after = second.outcome;
-    grows(before, after)
+    grows(old[place].outcome, new[place].outcome)
 }
 
 // Whether some protected task's response grows.
-fn some_grows(old: Table, new: Table, protected: u8) -> bool
-    requires good_old { table_refusal old ≡ 0 }
-    requires good_new { table_refusal new ≡ 0 }
-    requires same_count { old.count ≡ new.count }
-    ensures { result ≡ some_grows old new protected }
+fn some_grows(old: [Entry; 8], new: [Entry; 8], protected: u8, count: usize) -> bool
+    requires { count ≤ 8 }
+    ensures { result ≡ some_below (λ place. is_protected protected place && grows (get_or old place no_entry).outcome (get_or new place no_entry).outcome) count }
 {
-    let count = old.count as usize;
-    let mut found = false;
-    let mut place: usize = 0;
-    while place < count {
-        found = found | (is_protected(protected, place) & grows_at(old, new, place));
-        place += 1;
-    }
-    found
+    (0..count).any(|place| is_protected(protected, place) & grows_at(old, new, place))
 }
 
 // What is decided between two good tables.
-pub fn between(old: Table, new: Table, protected: u8) -> Decision
+pub fn between(old: Table, new: Table, protected: u8) -> Result<bool, Refusal>
     requires good_old { table_refusal old ≡ 0 }
     requires good_new { table_refusal new ≡ 0 }
-    ensures { result ≡ decided old new protected }
+    ensures { result ≡ answered (decided old new protected).refusal (decided old new protected).loads }
 {
+    let count = old.count as usize;
     if old.count != new.count {
-        return refused(24);
+        return Err(Refusal::DifferentCounts);
     }
-    if some_outside(protected, old.count as usize) {
-        return refused(12);
+    if some_outside(protected, count) {
+        return Err(Refusal::BadPlace);
     }
-    let passes = analysis::assess(new).passes;
-    Decision {
-        refusal: 0,
-        loads: passes & !some_grows(old, new, protected),
-    }
+    let before = analysis::assess(old)?;
+    let after = analysis::assess(new)?;
+    Ok(after.passes & !some_grows(before.entries, after.entries, protected, count))
 }

@@ -105,17 +105,15 @@ impl Machine {
     pub fn start(sheet: &[u8]) -> Run
         ensures { result ≡ start_answer sheet.now }
     {
-        let reading = sheet::read_whole(sheet);
-        if reading.refusal != 0 {
-            return Run {
-                refusal: reading.refusal,
+        match sheet::read_whole(sheet) {
+            Ok(table) => Run {
+                refusal: 0,
+                machine: ticking::machine_of(table),
+            },
+            Err(refusal) => Run {
+                refusal: refusal.number(),
                 machine: ticking::no_machine(),
-            };
-        }
-        let table = reading.table;
-        Run {
-            refusal: 0,
-            machine: ticking::machine_of(table),
+            },
         }
     }
 

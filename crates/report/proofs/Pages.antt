@@ -1,15 +1,14 @@
 -- A line's text in an output: its bytes one by one, its size, and the two answers of `put_line`. Assumes nothing.
-use Prim.Native.Nat.{ℕ, ◌+◌, ◌-◌, ◌≤◌, ◌<◌, min}
+use Prim.Native.Nat.{ℕ, ◌+◌, ◌-◌, ◌≤◌, min}
 use mathlib.Core.Path.{◌≡◌, refl, sym, ap, ◌∙◌}
 use mathlib.Core.Bool.{Bool, true, false}
-use mathlib.Core.List.{List, [], ◌∷◌}
-use native.Mathlib.Numerals.{add-one}
+use mathlib.Core.List.{List, append_assoc}
 use native.Mathlib.Omega.{arith}
 use borrow.Author.Tests.{ltb-true, ltb-false, leb-true, leb-false, le-leb, lt-leb}
 use lib.Dec.{ltb, leb}
-use lib.ListN.{length, get_or, take, set, length-take}
-use lib.Seq.{sets, length-take-le, take-suc, take_all}
-use Rattle.sheet.proofs.Stores.{sets-after}
+use lib.ListN.{length, take, drop, length-take}
+use lib.Seq.{sets, sets-eq, take_all}
+use borrow.Rule.Slice.PartMut.{put_mid, Post-is}
 use Rattle.report.specs.declared.Line.{Line}
 use Rattle.report.specs.Pages.{text_of, has_room, put_end, put_leaves}
 
@@ -25,12 +24,10 @@ room-from size length at within = go (leb size (length - at)) refl
         let short = leb-false size (length - at) e in
         e ∙ sym (lt-leb (at + size) length (omega arith))
 
--- the byte after those already put is one byte more of them
-pub copied_more : (out bytes : List ℕ) (at place : ℕ) → place < length bytes → set (sets out at (take place bytes)) (at + place) (get_or bytes place 0) ≡ sets out at (take (place + 1) bytes)
-copied_more out bytes at place below =
-    let so_far : length (take place bytes) ≡ place = length-take-le place bytes (omega arith) in
-    sets-after out (take place bytes) (get_or bytes place 0 ∷ []) at (at + place) (ap (λ (n : ℕ). at + n) (sym so_far))
-    ∙ ap (sets out at) (sym (take-suc bytes place 0 below) ∙ ap (λ (n : ℕ). take n bytes) (sym (add-one place)))
+-- a part put in the place of as many bytes
+pub put_sets : (out bytes part : List ℕ) (at end : ℕ) → part ≡ bytes → end ≡ at + length bytes → end ≤ length out → put_mid at (end - at) out part ≡ sets out at bytes
+put_sets out bytes part at end same ends fits =
+    rw (same, Post-is at end out (omega arith), ends) (sym (sets-eq bytes out at (omega (arith, fits, ends)) ∙ append_assoc (take at out) bytes (drop (at + length bytes) out)))
 
 -- as many as are asked for, or all of them
 take_min : (k n : ℕ) (bytes : List ℕ) → length bytes ≡ n → take (min k n) bytes ≡ take k bytes

@@ -1,16 +1,16 @@
 -- A number of 32 bits with a sign, as the code prints it: less than 0 or not, and how far from 0. Assumes nothing.
 use Prim.Native.Nat.{ℕ, suc, ◌^◌, ◌≤◌, ◌<◌}
-use mathlib.Core.Path.{◌≡◌, refl, sym, ap, ◌∙◌, subst}
+use mathlib.Core.Path.{◌≡◌, refl}
 use mathlib.Core.Bool.{true, false, true≢false}
 use mathlib.Core.List.{◌∷◌}
 use native.Mathlib.Omega.{arith}
 use borrow.Author.Tests.{ltb-true}
 use lib.Dec.{T}
-use lib.IntN.{ℤ, pos, negsuc, nat_abs, ◌-ℤ◌}
+use lib.IntN.{ℤ, pos, negsuc, nat_abs}
 use lib.ListN.{length}
 use lib.Signed.{mag, lt_z, non_neg}
-use mir.Syntax.{w32, w64}
-use mir.Val.{SFits, to_z, of_z}
+use mir.Syntax.{w32}
+use mir.Val.{to_z, of_z}
 use mir.Facts.{to_z-of_z}
 use Rattle.report.specs.Decimal.{decimal, signed}
 use Rattle.report.proofs.Decimal.{length-decimal}
@@ -48,25 +48,3 @@ module _ (z : ℤ) (fits : mag z < 2 ^ 31) where
 
   pub abs-small : nat_abs z ≤ 2147483648
   abs-small = abs-within z 2147483648 (omega arith)
-
-  -- the same number in 64 bits
-  pub widened-fits : SFits w64 (to_z w32 (of_z w32 z))
-  widened-fits = subst (SFits w64) (sym back) (record { sfits = omega arith })
-
-  widened : to_z w64 (of_z w64 (to_z w32 (of_z w32 z))) ≡ z
-  widened = to_z-of_z widened-fits ∙ back
-
-  -- 0 less a negative number is how far it is from 0
-  module _ (less : lt_z z (pos 0) ≡ true) where
-    turned : pos 0 -ℤ to_z w64 (of_z w64 (to_z w32 (of_z w32 z))) ≡ pos (nat_abs z)
-    turned = ap (λ (k : ℤ). pos 0 -ℤ k) widened ∙ go z less
-      where
-        go : (k : ℤ) → lt_z k (pos 0) ≡ true → pos 0 -ℤ k ≡ pos (nat_abs k)
-        go (pos n) h = absurd (omega (arith, ltb-true n 0 h))
-        go (negsuc n) h = ap pos (omega arith)
-
-    pub turned-fits : SFits w64 (pos 0 -ℤ to_z w64 (of_z w64 (to_z w32 (of_z w32 z))))
-    turned-fits = subst (SFits w64) (sym turned) (record { sfits = omega (arith, abs-small) })
-
-    pub turned-back : to_z w64 (of_z w64 (pos 0 -ℤ to_z w64 (of_z w64 (to_z w32 (of_z w32 z))))) ≡ pos (nat_abs z)
-    turned-back = to_z-of_z turned-fits ∙ turned

@@ -1,7 +1,6 @@
 // A line put together: a byte, a word, a number or a response after what it holds, where there is room.
-ghost use Rattle.std.specs.Prelude.{◌≡◌, [], ◌∷◌, ◌++◌, ◌+◌, ◌≤◌, ◌<◌, min, length, true, pos, nat_abs};
+ghost use Rattle.std.specs.Prelude.{◌≡◌, [], ◌∷◌, ◌++◌, ◌+◌, ◌≤◌, ◌<◌, length, nat_abs};
 ghost use Rattle.report.specs.Words.{space, newline};
-ghost use Rattle.std.specs.Int.Signed.{lt_z};
 ghost use Rattle.report.specs.Decimal.{digit, decimal, signed};
 ghost use Rattle.report.specs.Texts.{line_of, late_text, outcome_text, changed_text, told_text};
 ghost use Rattle.report.specs.Putting.{Room, put};
@@ -16,10 +15,10 @@ fn with_byte(line: Line, byte: u8) -> Line
     requires { Room line 1 }
     ensures { result ≡ put line (byte ∷ []) }
 {
-    let at = line.len;
-    let mut bytes = line.bytes;
-    bytes[at] = byte;
-    Line { bytes, len: at + 1 }
+    let mut longer = line;
+    longer.bytes[line.len] = byte;
+    longer.len = line.len + 1;
+    longer
 }
 
 // A word's bytes.
@@ -27,12 +26,10 @@ pub fn with_word(line: Line, word: &[u8]) -> Line
     requires { Room line (length word.now) }
     ensures { result ≡ put line word.now }
 {
+    let end = line.len + word.len();
     let mut longer = line;
-    let mut place: usize = 0;
-    while place < word.len() {
-        longer = with_byte(longer, word[place]);
-        place += 1;
-    }
+    longer.bytes[line.len..end].copy_from_slice(word);
+    longer.len = end;
     longer
 }
 
@@ -94,13 +91,12 @@ pub fn numbered(word: &[u8], number: u64) -> Line
     with_word(labelled(word, number), b"\n")
 }
 
-// How far a negative number is below 0.
+// How far a number is from 0.
 fn magnitude(number: i32) -> u64
-    requires { lt_z number (pos 0) ≡ true }
     ensures answer { result ≡ nat_abs number }
     ensures bounded { result ≤ 2147483648 }
 {
-    (0 - number as i64) as u64
+    u64::from(number.unsigned_abs())
 }
 
 // A number in decimal, after a minus sign if it is negative.
@@ -148,13 +144,6 @@ pub fn with_entry(line: Line, entry: u8) -> Line
     with_number(with_word(line, b" "), entry as u64)
 }
 
-// How many entries a choice of so many records prints.
-pub fn entries(count: u8) -> usize
-    ensures { result ≡ min count 8 }
-{
-    if count < 8 { count as usize } else { 8 }
-}
-
 // What a change is made to: the length, or a field of what a word and a number name.
 fn changed(word: &[u8], number: u64, field: Field) -> Line
     requires { length word.now ≤ 7 }
@@ -173,8 +162,7 @@ pub fn told(word: &[u8], number: u64, change: Change) -> Line
     requires { length word.now ≤ 7 }
     ensures { result ≡ line_of (told_text word.now number change) }
 {
-    let field = change.field;
-    let line = changed(word, number, field);
+    let line = changed(word, number, change.field);
     let line = with_labelled(line, b" ", change.old);
     let line = with_labelled(line, b" ", change.new);
     with_word(line, b"\n")
@@ -193,10 +181,9 @@ pub fn with_name(line: Line, name: &[u8]) -> Line
     requires room { line.len + length name.now ≤ 87 }
     ensures { result ≡ put (opened_line line) ((space ++ name.now) ++ newline) }
 {
-    let bytes = line.bytes;
     let opened = Line {
-        bytes,
         len: line.len - 1,
+        ..line
     };
     let named = with_word(with_word(opened, b" "), name);
     with_word(named, b"\n")

@@ -84,12 +84,10 @@ pub fn saying_line(saying: Saying) -> Line
 pub fn task_line(place: u8, entry: Entry) -> Line
     ensures { result ≡ line_of (task_text place entry) }
 {
-    let outcome = entry.outcome;
-    let slack = entry.slack;
     let line = composing::begun(b"task ");
     let line = composing::with_number(line, place as u64 + 1);
     let line = composing::with_word(line, b" ");
-    let line = composing::with_outcome(line, outcome, slack);
+    let line = composing::with_outcome(line, entry.outcome, entry.slack);
     composing::with_word(line, b"\n")
 }
 
@@ -97,12 +95,10 @@ pub fn task_line(place: u8, entry: Entry) -> Line
 pub fn choice_line(count: u8, choice: [u8; 8]) -> Line
     ensures { result ≡ line_of (choice_text count choice) }
 {
-    let entries = composing::entries(count);
+    let entries = &choice[..count.min(8) as usize];
     let mut line = composing::begun(b"pass");
-    let mut place: usize = 0;
-    while place < entries {
-        line = composing::with_entry(line, choice[place]);
-        place += 1;
+    for &entry in entries {
+        line = composing::with_entry(line, entry);
     }
     composing::with_word(line, b"\n")
 }
@@ -155,10 +151,9 @@ pub fn put_line(line: Line, out: &mut [u8], at: usize) -> usize
     ensures answer { result ≡ put_end line out.old at }
     ensures left { out.new ≡ put_leaves line out.old at }
 {
-    let bytes = line.bytes;
-    let size = page::text_size(line.len);
+    let size = line.len.min(88);
     if page::fits(size, out.len(), at) {
-        page::copy(out, at, bytes, size);
+        page::copy(out, at, &line.bytes, size);
         return at + size;
     }
     at

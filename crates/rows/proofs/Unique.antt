@@ -1,5 +1,5 @@
 -- Each public call's promise leaves one answer: any two that its contract admits are equal. What a call writes is no part of its answer. `Learnt` is the contract's own reading: lifetimes, arguments, result, parameters at exit. Assumes nothing.
-use Rattle.std.proofs.Common.{◌≡◌, ℕ, List, length, ap, Bor}
+use Rattle.std.proofs.Common.{◌≡◌, ℕ, Option, List, length, ap, Bor}
 use contract.Lifetimes.{Lfts}
 use Rattle.sheet.specs.declared.Table.{Table}
 use Rattle.sheet.proofs.Unique.{both, SamePart}
@@ -44,16 +44,16 @@ choice-unique κs args a b s u = both
 pub begin-unique : (κs : Lfts 1) (args : _) (a b : ℕ) (s u : _) → begin.Learnt κs args a s → begin.Learnt κs args b u → a ≡ b
 begin-unique κs args a b s u = both
 
-pub say-unique : (κs : Lfts 2) (args : _) (a b : ℕ) (s u : _) → say.Learnt κs args a s → say.Learnt κs args b u → a ≡ b
+pub say-unique : (κs : Lfts 2) (args : _) (a b : Option ℕ) (s u : _) → say.Learnt κs args a s → say.Learnt κs args b u → a ≡ b
 say-unique κs args a b s u = both
 
-pub say-number-unique : (κs : Lfts 1) (args : _) (a b : ℕ) (s u : _) → say-number.Learnt κs args a s → say-number.Learnt κs args b u → a ≡ b
+pub say-number-unique : (κs : Lfts 1) (args : _) (a b : Option ℕ) (s u : _) → say-number.Learnt κs args a s → say-number.Learnt κs args b u → a ≡ b
 say-number-unique κs args a b s u = both
 
-pub say-spaced-unique : (κs : Lfts 1) (args : _) (a b : ℕ) (s u : _) → say-spaced.Learnt κs args a s → say-spaced.Learnt κs args b u → a ≡ b
+pub say-spaced-unique : (κs : Lfts 1) (args : _) (a b : Option ℕ) (s u : _) → say-spaced.Learnt κs args a s → say-spaced.Learnt κs args b u → a ≡ b
 say-spaced-unique κs args a b s u = both
 
-pub say-bytes-unique : (κs : Lfts 2) (args : _) (a b : ℕ) (s u : _) → say-bytes.Learnt κs args a s → say-bytes.Learnt κs args b u → a ≡ b
+pub say-bytes-unique : (κs : Lfts 2) (args : _) (a b : Option ℕ) (s u : _) → say-bytes.Learnt κs args a s → say-bytes.Learnt κs args b u → a ≡ b
 say-bytes-unique κs args a b s u = both
 
 pub end-unique : (κs : Lfts 1) (args : _) (a b : Tally) (s u : _) → end.Learnt κs args a s → end.Learnt κs args b u → a ≡ b

@@ -1,15 +1,15 @@
 // Rows: a row stands on a line of its own in the list that the program which runs it reads:
 // letters for what it is about and for its form, the figures that it starts from, a bar, its name, a bar, and what is to be answered, as it is to be written.
 // Every call answers any list. What a call writes goes to standard output and is no part of its answer: where a part of an answer
-// ends in the list, a figure of a row, a table, or the tally; of a part that does not stand in the list the end is `MISSED`.
+// ends in the list, a figure of a row, a table, or the tally; a part that does not stand in the list has no end, nor has what comes after it.
 #![tactic(auto)]
 
 mod list;
 mod tables;
 
-ghost use Rattle.std.specs.Prelude.{◌≡◌, [], ◌∷◌, ◌==◌, slice_index};
+ghost use Rattle.std.specs.Prelude.{◌≡◌, [], ◌∷◌, slice_index};
 ghost use Rattle.rows.specs.Lists.{after, Next, First, figure_of};
-ghost use Rattle.rows.specs.Answers.{said, number_said, bytes_said};
+ghost use Rattle.rows.specs.Answers.{text_end, number_end, bytes_end, ends_line};
 ghost use Rattle.rows.specs.Tallies.{no_rows, counted};
 ghost use Rattle.rows.specs.Tables.{table_by, choice_of};
 
@@ -18,18 +18,15 @@ use sheet::Table;
 // The descriptor of standard output, on which all is written.
 const STDOUT_FILENO: i32 = 1;
 
-// The end of what does not stand in a list: a place that no list reaches.
-pub const MISSED: usize = 18446744073709551615;
-
 // Sheet A's table: the count, the interval, and the six fields of each record.
-pub const TABLE_A: [u8; 48] = *b"A 3 9 4 4 12 12 3 3 3 3 20 20 2 2 1 1 35 35 1 1|";
+pub const TABLE_A: &[u8] = b"A 3 9 4 4 12 12 3 3 3 3 20 20 2 2 1 1 35 35 1 1|";
 
 // The same with rubbish in each record past the count.
-pub const TABLE_A_AND_RUBBISH: [u8; 148] = *b"A 3 9 4 4 12 12 3 3 3 3 20 20 2 2 1 1 35 35 1 1 \
+pub const TABLE_A_AND_RUBBISH: &[u8] = b"A 3 9 4 4 12 12 3 3 3 3 20 20 2 2 1 1 35 35 1 1 \
     65535 0 1 0 200 255 65535 0 1 0 200 255 65535 0 1 0 200 255 65535 0 1 0 200 255 65535 0 1 0 200 255|";
 
 // The table of a lone task with C and B 1, D and T 2, at E = 2.
-pub const TABLE_LONE: [u8; 18] = *b"1 1 2 1 1 2 2 1 1|";
+pub const TABLE_LONE: &[u8] = b"1 1 2 1 1 2 2 1 1|";
 
 // How many rows were run, and how many of them did not answer as expected.
 #[derive(Clone, Copy)]
@@ -111,49 +108,47 @@ pub fn begin(list: &[u8], start: usize) -> usize
 }
 
 // Writes a text of an answer.
-pub fn say(list: &[u8], at: usize, text: &[u8]) -> usize
-    ensures { result ≡ said list.now at text.now }
+pub fn say(list: &[u8], at: Option<usize>, text: &[u8]) -> Option<usize>
+    ensures { result ≡ text_end list.now at text.now }
 {
     io::write_all(STDOUT_FILENO, text);
     list::stands(list, at, text)
 }
 
 // Writes a number of an answer.
-pub fn say_number(list: &[u8], at: usize, value: u64) -> usize
-    ensures { result ≡ number_said list.now at value }
+pub fn say_number(list: &[u8], at: Option<usize>, value: u64) -> Option<usize>
+    ensures { result ≡ number_end list.now at value }
 {
     io::print_decimal(STDOUT_FILENO, value);
     list::number_stands(list, at, value)
 }
 
 // Writes a number of an answer after a space.
-pub fn say_spaced(list: &[u8], at: usize, value: u64) -> usize
-    ensures { result ≡ number_said list.now (said list.now at (32 ∷ [])) value }
+pub fn say_spaced(list: &[u8], at: Option<usize>, value: u64) -> Option<usize>
+    ensures { result ≡ number_end list.now (text_end list.now at (32 ∷ [])) value }
 {
     let space = say(list, at, b" ");
     say_number(list, space, value)
 }
 
 // Writes each byte of an answer by two hexadecimal digits, after a space.
-pub fn say_bytes(list: &[u8], at: usize, bytes: &[u8]) -> usize
-    ensures { result ≡ bytes_said list.now at bytes.now }
+pub fn say_bytes(list: &[u8], at: Option<usize>, bytes: &[u8]) -> Option<usize>
+    ensures { result ≡ bytes_end list.now at bytes.now }
 {
     let mut end = at;
-    let mut place = 0;
-    while place < bytes.len() {
-        let digits = list::hexadecimal(bytes[place]);
+    for byte in bytes {
+        let digits = list::hexadecimal(*byte);
         end = say(list, end, &digits);
-        place += 1;
     }
     end
 }
 
 // Ends the line of a row whose answer stands at a place and came to an end, which is a line's end where the answer is the expected one;
 // where it is not, what was expected is written too.
-pub fn end(tally: Tally, list: &[u8], at: usize, end: usize) -> Tally
-    ensures { result ≡ counted tally (slice_index list.now end == 10) }
+pub fn end(tally: Tally, list: &[u8], at: usize, end: Option<usize>) -> Tally
+    ensures { result ≡ counted tally (ends_line list.now end) }
 {
-    let is_expected = list::byte(list, end) == b'\n';
+    let is_expected = list::ends_line(list, end);
     if !is_expected {
         io::write_all(STDOUT_FILENO, b" EXPECTED");
         list::write_line(list, at, list::after(list, at, b'\n'));

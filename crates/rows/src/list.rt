@@ -1,10 +1,10 @@
 // Reading in a list of bytes: places, numbers, what stands at a place; and what is written of it.
 ghost use Rattle.std.specs.Prelude.{◌≡◌, ◌/◌, ◌%◌, slice_index};
 ghost use Rattle.rows.specs.Lists.{after, grown, number_at, figure_of};
-ghost use Rattle.rows.specs.Answers.{said, number_said, glyph, hex_text};
+ghost use Rattle.rows.specs.Answers.{text_end, number_end, glyph, hex_text, ends_line};
 ghost use Rattle.rows.specs.Tallies.{counted, more};
 
-use crate::{MISSED, STDOUT_FILENO, Tally};
+use crate::{STDOUT_FILENO, Tally};
 
 // The number whose digits stand at a place of a list, and the place after them.
 #[derive(Clone, Copy)]
@@ -17,57 +17,57 @@ pub struct Digits {
 pub fn byte(list: &[u8], place: usize) -> u8
     ensures { result ≡ slice_index list.now place }
 {
-    if place < list.len() { list[place] } else { 0 }
+    list.get(place).copied().unwrap_or(0)
 }
 
-// The place after the first such byte from a place on, or the end where there is none.
+// The place after the first such byte from a place on, or the end where there is none. With `position` in place of the loop the proof did not
+// close: `after` counts bytes up to the first such one, and the call's answer says which one is the first.
 pub fn after(list: &[u8], start: usize, mark: u8) -> usize
     ensures { result ≡ after list.now start mark }
 {
-    let mut place = start;
-    while place < list.len() {
+    for place in start..list.len() {
         if list[place] == mark {
             return place + 1;
         }
-        place += 1;
     }
-    place
+    start.max(list.len())
 }
 
 // A number with one digit more, as far as 64 bits hold it.
+#[tactic(auto, unfolding(crate::specs::Lists::grown))]
 fn grow(value: u64, digit: u8) -> u64
     ensures { result ≡ grown value digit }
 {
     let tens = value % 1844674407370955162 * 10;
-    std::num::wrapping_add_u64(tens, (digit % 16) as u64)
+    tens.wrapping_add(u64::from(digit % 16))
 }
 
-// The number whose digits stand at a place.
+// The number whose digits stand at a place. The loop finds value and end in one pass, which no chain does more plainly.
 fn number(list: &[u8], at: usize) -> Digits
     ensures { result ≡ number_at list.now at }
 {
     let mut value: u64 = 0;
-    let mut end = at;
-    while end < list.len() {
+    for end in at..list.len() {
         let digit = list[end];
         if (digit < b'0') | (b'9' < digit) {
             return Digits { value, end };
         }
         value = grow(value, digit);
-        end += 1;
     }
-    Digits { value, end }
+    Digits {
+        value,
+        end: at.max(list.len()),
+    }
 }
 
-// A figure of a row: the number after so many spaces, 0 where they are not all in front of the row's first bar.
+// A figure of a row: the number after so many spaces, 0 where they are not all in front of the row's first bar. The place is handed from turn
+// to turn as `field_at` does it.
 pub fn figure(list: &[u8], start: usize, which: usize) -> u64
     ensures { result ≡ figure_of list.now start which }
 {
     let mut place = start;
-    let mut passed: usize = 0;
-    while passed < which {
+    for passed in 0..which {
         place = after(list, place, b' ');
-        passed += 1;
     }
     let read = number(list, place);
     if place < after(list, start, b'|') {
@@ -78,36 +78,48 @@ pub fn figure(list: &[u8], start: usize, which: usize) -> u64
 }
 
 // Where a text ends that stands at a place.
-pub fn stands(list: &[u8], at: usize, text: &[u8]) -> usize
-    ensures { result ≡ said list.now at text.now }
+#[tactic(auto, unfolding(crate::specs::Answers::text_end))]
+pub fn stands(list: &[u8], at: Option<usize>, text: &[u8]) -> Option<usize>
+    ensures { result ≡ text_end list.now at text.now }
 {
-    let mut place = at;
-    let mut done: usize = 0;
-    while done < text.len() {
-        if list.len() <= place {
-            return MISSED;
-        }
-        if list[place] != text[done] {
-            return MISSED;
-        }
-        place += 1;
-        done += 1;
+    let Some(place) = at else {
+        return None;
+    };
+    let rest = &list[place.min(list.len())..];
+    if rest.starts_with(text) {
+        Some(place + text.len())
+    } else {
+        None
     }
-    place
 }
 
 // Where a number ends that stands at a place.
-pub fn number_stands(list: &[u8], at: usize, value: u64) -> usize
-    ensures { result ≡ number_said list.now at value }
+#[tactic(auto, unfolding(crate::specs::Answers::number_end))]
+pub fn number_stands(list: &[u8], at: Option<usize>, value: u64) -> Option<usize>
+    ensures { result ≡ number_end list.now at value }
 {
-    let read = number(list, at);
-    if read.end == at {
-        return MISSED;
+    let Some(place) = at else {
+        return None;
+    };
+    let read = number(list, place);
+    if read.end == place {
+        return None;
     }
     if read.value == value {
-        read.end
+        Some(read.end)
     } else {
-        MISSED
+        None
+    }
+}
+
+// Whether what was said ends where a line does.
+#[tactic(auto, unfolding(crate::specs::Answers::ends_line))]
+pub fn ends_line(list: &[u8], end: Option<usize>) -> bool
+    ensures { result ≡ ends_line list.now end }
+{
+    match end {
+        Some(place) => byte(list, place) == b'\n',
+        None => false,
     }
 }
 
@@ -141,14 +153,11 @@ pub fn write_line(list: &[u8], start: usize, end: usize) {
 }
 
 // One more, up to the largest number there is.
+#[tactic(auto, unfolding(crate::specs::Tallies::more))]
 fn one_more(count: u64) -> u64
     ensures { result ≡ more count }
 {
-    if count < 18446744073709551615 {
-        count + 1
-    } else {
-        count
-    }
+    count.saturating_add(1)
 }
 
 // A tally with one row more.

@@ -13,10 +13,8 @@ pub fn fields_of(base: &[u8]) -> Fields
     ensures { result ≡ fields_of base.now }
 {
     let mut fields = [1u16; 53];
-    let mut field: usize = 0;
-    while field < 51 {
+    for field in 0..51 {
         fields[field] = short(list::figure(base, 0, field));
-        field += 1;
     }
     fields
 }
@@ -36,17 +34,16 @@ fn slot(field: u64) -> usize
     if field < 53 { field as usize } else { 0 }
 }
 
-// The fields with those replaced that a row gives from a figure on: a field's number, and its value, eight times at most.
+// The fields with those replaced that a row gives from a figure on: a field's number, and its value, eight times at most. Each turn writes
+// where the row says, so that no chain over the fields has it.
 pub fn patched(base: Fields, list: &[u8], start: usize, first: usize) -> Fields
     ensures { result ≡ patched_by base list.now start first }
 {
     let mut fields = base;
-    let mut pair: usize = 0;
-    while pair < 8 {
+    for pair in 0..8 {
         let which = first % 256 + 2 * pair;
         let field = slot(list::figure(list, start, which));
         fields[field] = short(list::figure(list, start, which + 1));
-        pair += 1;
     }
     fields
 }

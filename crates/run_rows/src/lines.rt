@@ -1,4 +1,5 @@
 // Rows of printed lines, each kind at the ends of what it is given, and of putting a line: what is answered in each form. A row's figures are its call's arguments, in their order.
+use crate::row::Row;
 use analysis::{Entry, Outcome, Slack};
 use mend::{Change, Field};
 use report::{Line, Name, Saying};
@@ -6,35 +7,24 @@ use report::{Line, Name, Saying};
 // What each byte of an output holds before a line is put into it.
 const FILLER: u8 = 0xEE;
 
-// A figure of a row as a byte.
-fn short(list: &[u8], start: usize, which: usize) -> u8 {
-    (rows::figure(list, start, which) % 256) as u8
-}
-
-// A figure of a row in sixteen bits.
-fn wide(list: &[u8], start: usize, which: usize) -> u16 {
-    (rows::figure(list, start, which) % 65536) as u16
-}
-
 // Says a text without the newline that ends it; where none does, it says that.
-fn say_text(list: &[u8], at: usize, text: &[u8]) -> usize {
-    if text.len() == 0 {
-        return rows::say(list, at, b" no text");
-    }
-    let last = text.len() - 1;
-    let space = rows::say(list, at, b" ");
-    let end = rows::say(list, space, rows::first(text, last));
-    if text[last] == b'\n' {
+fn say_text(row: Row, at: Option<usize>, text: &[u8]) -> Option<usize> {
+    let Some((last, rest)) = text.split_last() else {
+        return row.say(at, b" no text");
+    };
+    let space = row.say(at, b" ");
+    let end = row.say(space, rest);
+    if *last == b'\n' {
         end
     } else {
-        rows::say(list, end, b" and no newline")
+        row.say(end, b" and no newline")
     }
 }
 
 // Says a line.
-fn say_line(list: &[u8], at: usize, line: Line) -> usize {
+fn say_line(row: Row, at: Option<usize>, line: Line) -> Option<usize> {
     let bytes = line.bytes;
-    say_text(list, at, rows::first(&bytes, line.len))
+    say_text(row, at, rows::first(&bytes, line.len))
 }
 
 // The name of a number.
@@ -57,13 +47,9 @@ fn name(number: u64) -> Name {
 }
 
 // The line of a name, the first figure, and a number.
-fn named(list: &[u8], start: usize, at: usize) -> usize {
-    let name = name(rows::figure(list, start, 1));
-    say_line(
-        list,
-        at,
-        report::named_line(name, rows::figure(list, start, 2)),
-    )
+fn named(row: Row, at: Option<usize>) -> Option<usize> {
+    let name = name(row.figure(1));
+    say_line(row, at, report::named_line(name, row.figure(2)))
 }
 
 // The saying of a number.
@@ -77,30 +63,30 @@ fn saying(number: u64) -> Saying {
 }
 
 // The line of a saying.
-fn said(list: &[u8], start: usize, at: usize) -> usize {
-    let saying = saying(rows::figure(list, start, 1));
-    say_line(list, at, report::saying_line(saying))
+fn said(row: Row, at: Option<usize>) -> Option<usize> {
+    let saying = saying(row.figure(1));
+    say_line(row, at, report::saying_line(saying))
 }
 
 // The line of a task with an outcome and a slack, its place the first figure.
-fn say_task(list: &[u8], start: usize, at: usize, outcome: Outcome, slack: Slack) -> usize {
+fn say_task(row: Row, at: Option<usize>, outcome: Outcome, slack: Slack) -> Option<usize> {
     let entry = Entry {
         deadline: 0,
         outcome,
         slack,
     };
-    say_line(list, at, report::task_line(short(list, start, 1), entry))
+    say_line(row, at, report::task_line(row.short(1), entry))
 }
 
 // The line of a task on time.
-fn on_time(list: &[u8], start: usize, at: usize) -> usize {
-    let outcome = Outcome::OnTime(wide(list, start, 2));
-    say_task(list, start, at, outcome, Slack::Figure(0))
+fn on_time(row: Row, at: Option<usize>) -> Option<usize> {
+    let outcome = Outcome::OnTime(row.wide(2));
+    say_task(row, at, outcome, Slack::Figure(0))
 }
 
 // The line of a task that is late without a figure.
-fn late(list: &[u8], start: usize, at: usize) -> usize {
-    say_task(list, start, at, Outcome::Late, Slack::NoFigure)
+fn late(row: Row, at: Option<usize>) -> Option<usize> {
+    say_task(row, at, Outcome::Late, Slack::NoFigure)
 }
 
 // The first number less the second.
@@ -109,33 +95,29 @@ fn difference(first: u16, second: u16) -> i32 {
 }
 
 // The line of a task that is late with a slack, the second figure less the third.
-fn late_by(list: &[u8], start: usize, at: usize) -> usize {
-    let ticks = difference(wide(list, start, 2), wide(list, start, 3));
-    say_task(list, start, at, Outcome::Late, Slack::Figure(ticks))
+fn late_by(row: Row, at: Option<usize>) -> Option<usize> {
+    let ticks = difference(row.wide(2), row.wide(3));
+    say_task(row, at, Outcome::Late, Slack::Figure(ticks))
 }
 
 // The line of a choice: the count and eight entries.
-fn choice(list: &[u8], start: usize, at: usize) -> usize {
+fn choice(row: Row, at: Option<usize>) -> Option<usize> {
     let choice = [
-        short(list, start, 2),
-        short(list, start, 3),
-        short(list, start, 4),
-        short(list, start, 5),
-        short(list, start, 6),
-        short(list, start, 7),
-        short(list, start, 8),
-        short(list, start, 9),
+        row.short(2),
+        row.short(3),
+        row.short(4),
+        row.short(5),
+        row.short(6),
+        row.short(7),
+        row.short(8),
+        row.short(9),
     ];
-    say_line(list, at, report::choice_line(short(list, start, 1), choice))
+    say_line(row, at, report::choice_line(row.short(1), choice))
 }
 
 // The line of a place and a core.
-fn core(list: &[u8], start: usize, at: usize) -> usize {
-    say_line(
-        list,
-        at,
-        report::core_line(short(list, start, 1), short(list, start, 2)),
-    )
+fn core(row: Row, at: Option<usize>) -> Option<usize> {
+    say_line(row, at, report::core_line(row.short(1), row.short(2)))
 }
 
 // The field of a number.
@@ -148,60 +130,53 @@ fn field(number: u64) -> Field {
 }
 
 // The line of a change: the place, the field, the old and the new value.
-fn change(list: &[u8], start: usize, at: usize) -> usize {
+fn change(row: Row, at: Option<usize>) -> Option<usize> {
     let change = Change {
-        place: short(list, start, 1),
-        field: field(rows::figure(list, start, 2)),
-        old: rows::figure(list, start, 3),
-        new: rows::figure(list, start, 4),
+        place: row.short(1),
+        field: field(row.figure(2)),
+        old: row.figure(3),
+        new: row.figure(4),
     };
-    say_line(list, at, report::change_line(change))
+    say_line(row, at, report::change_line(change))
 }
 
 // The line of a refusal with a line and a column.
-fn refused_at(list: &[u8], start: usize, at: usize) -> usize {
-    let line = rows::figure(list, start, 2);
-    let column = rows::figure(list, start, 3);
-    say_line(
-        list,
-        at,
-        report::refused_at_line(short(list, start, 1), line, column),
-    )
+fn refused_at(row: Row, at: Option<usize>) -> Option<usize> {
+    let line = row.figure(2);
+    let column = row.figure(3);
+    say_line(row, at, report::refused_at_line(row.short(1), line, column))
 }
 
 // Puts a line at a place of the first bytes of an output.
 fn put_into(line: Line, output: &mut [u8], length: usize, place: usize) -> usize {
-    if length <= output.len() {
-        report::put_line(line, &mut output[0..length], place)
-    } else {
-        report::put_line(line, output, place)
-    }
+    let room = length.min(output.len());
+    report::put_line(line, &mut output[..room], place)
 }
 
 // The line of so many choices put at a place of the first so many bytes of twelve: where it ends, and all twelve bytes after that.
-fn put(list: &[u8], start: usize, at: usize) -> usize {
+fn put(row: Row, at: Option<usize>) -> Option<usize> {
     let mut output = [FILLER; 12];
-    let line = report::named_line(Name::End, rows::figure(list, start, 1));
-    let place = rows::figure(list, start, 2) as usize;
-    let length = rows::figure(list, start, 3) as usize;
+    let line = report::named_line(Name::End, row.figure(1));
+    let place = row.size(2);
+    let length = row.size(3);
     let ended = put_into(line, &mut output, length, place);
-    let end = rows::say_spaced(list, at, ended as u64);
-    rows::say_bytes(list, rows::say(list, end, b", bytes"), &output)
+    let end = row.say_spaced(at, ended as u64);
+    row.say_bytes(row.say(end, b", bytes"), &output)
 }
 
 // The answer of a form of row.
-pub fn answer(form: u8, list: &[u8], start: usize, at: usize) -> usize {
+pub fn answer(form: u8, row: Row, at: Option<usize>) -> Option<usize> {
     match form {
-        b'n' => named(list, start, at),
-        b'w' => said(list, start, at),
-        b't' => on_time(list, start, at),
-        b'l' => late(list, start, at),
-        b's' => late_by(list, start, at),
-        b'p' => choice(list, start, at),
-        b'c' => core(list, start, at),
-        b'm' => change(list, start, at),
-        b'a' => refused_at(list, start, at),
-        b'u' => put(list, start, at),
-        _ => rows::MISSED,
+        b'n' => named(row, at),
+        b'w' => said(row, at),
+        b't' => on_time(row, at),
+        b'l' => late(row, at),
+        b's' => late_by(row, at),
+        b'p' => choice(row, at),
+        b'c' => core(row, at),
+        b'm' => change(row, at),
+        b'a' => refused_at(row, at),
+        b'u' => put(row, at),
+        _ => None,
     }
 }

@@ -1,28 +1,30 @@
 // Rows of lists: what is answered in each form of listing every passing choice into the first bytes of a buffer, so many as the second figure says.
 // The buffer holds the filler EE before, a byte that no list has in it.
 use crate::chosen_tables;
-use choices::Listing;
+use crate::row::Row;
+use places::refusal::Refusal;
 use sheet::Table;
 
 // What each byte of the buffer holds before.
 const FILLER: u8 = 0xEE;
 
-// Says a refusal and the number of choices found, and the word in front of the bytes that came with them.
-pub fn say_listing(list: &[u8], at: usize, answer: Listing) -> usize {
-    let at = rows::say(list, at, b" refusal");
-    let at = rows::say_spaced(list, at, answer.refusal as u64);
-    let at = rows::say(list, at, b", found");
-    let at = rows::say_spaced(list, at, answer.entries as u64);
-    rows::say(list, at, b", bytes")
+// Says a refusal and the number of choices found, each 0 beside the other, and the word in front of the bytes that came with them.
+pub fn say_listing(row: Row, at: Option<usize>, answer: Result<usize, Refusal>) -> Option<usize> {
+    let (number, entries) = match answer {
+        Ok(entries) => (0, entries),
+        Err(refusal) => (refusal.number(), 0),
+    };
+    let at = row.say(at, b" refusal");
+    let at = row.say_spaced(at, number as u64);
+    let at = row.say(at, b", found");
+    let at = row.say_spaced(at, entries as u64);
+    row.say(at, b", bytes")
 }
 
 // Lists a table's choices into the first bytes of a buffer.
-fn list_into(table: Table, buffer: &mut [u8], length: usize) -> Listing {
-    if length <= buffer.len() {
-        choices::list(table, &mut buffer[0..length])
-    } else {
-        choices::list(table, buffer)
-    }
+fn list_into(table: Table, buffer: &mut [u8], length: usize) -> Result<usize, Refusal> {
+    let room = length.min(buffer.len());
+    choices::list(table, &mut buffer[..room])
 }
 
 // How many bytes of so many are said: all, or the first sixteen where there are many.
@@ -31,20 +33,20 @@ fn shown(length: usize) -> usize {
 }
 
 // The list, and the first bytes of the buffer after it.
-fn listed(list: &[u8], start: usize, at: usize) -> usize {
+fn listed(row: Row, at: Option<usize>) -> Option<usize> {
     let mut buffer = [FILLER; 161280];
-    let length = rows::figure(list, start, 2) as usize;
-    let answer = list_into(chosen_tables::table(list, start), &mut buffer, length);
-    let found = say_listing(list, at, answer);
-    rows::say_bytes(list, found, rows::first(&buffer, shown(length)))
+    let length = row.size(2);
+    let answer = list_into(chosen_tables::table(row), &mut buffer, length);
+    let found = say_listing(row, at, answer);
+    row.say_bytes(found, rows::first(&buffer, shown(length)))
 }
 
 // A checksum of the whole buffer after it.
-fn checked(list: &[u8], start: usize, at: usize) -> usize {
+fn checked(row: Row, at: Option<usize>) -> Option<usize> {
     let mut buffer = [FILLER; 161280];
-    let length = rows::figure(list, start, 2) as usize;
-    list_into(chosen_tables::table(list, start), &mut buffer, length);
-    rows::say_spaced(list, at, checksum(&buffer))
+    let length = row.size(2);
+    let _ = list_into(chosen_tables::table(row), &mut buffer, length);
+    row.say_spaced(at, checksum(&buffer))
 }
 
 // A checksum with one byte more.
@@ -54,20 +56,14 @@ fn mixed(sum: u64, byte: u8) -> u64 {
 
 // A checksum of a list's bytes.
 fn checksum(bytes: &[u8]) -> u64 {
-    let mut sum: u64 = 0;
-    let mut place: usize = 0;
-    while place < bytes.len() {
-        sum = mixed(sum, bytes[place]);
-        place += 1;
-    }
-    sum
+    bytes.iter().fold(0, |sum, byte| mixed(sum, *byte))
 }
 
 // The answer of a form of row.
-pub fn answer(form: u8, list: &[u8], start: usize, at: usize) -> usize {
+pub fn answer(form: u8, row: Row, at: Option<usize>) -> Option<usize> {
     match form {
-        b'l' => listed(list, start, at),
-        b'k' => checked(list, start, at),
-        _ => rows::MISSED,
+        b'l' => listed(row, at),
+        b'k' => checked(row, at),
+        _ => None,
     }
 }

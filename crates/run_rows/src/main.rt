@@ -7,12 +7,14 @@
 mod chosen_tables;
 mod lines;
 mod lists;
+mod row;
 mod sheet_samples;
 mod sheets;
 mod timed_tables;
 mod times;
 mod walks;
 
+use row::Row;
 use rows::Tally;
 
 // The descriptor of standard input.
@@ -25,28 +27,29 @@ fn main() {
     rows::total(run(&buffer[..length]));
 }
 
-// Runs every row of a list.
+// Runs every row of a list. Where the next one begins is found, and not counted.
 fn run(list: &[u8]) -> Tally {
     let mut tally = rows::none();
     let mut start: usize = 0;
     while start < list.len() {
-        tally = row(tally, list, start);
+        tally = answer_row(tally, list, start);
         start = rows::next(list, start);
     }
     tally
 }
 
 // Runs the row at a place.
-fn row(tally: Tally, list: &[u8], start: usize) -> Tally {
+fn answer_row(tally: Tally, list: &[u8], start: usize) -> Tally {
     let at = rows::begin(list, start);
-    let form = rows::byte(list, std::num::wrapping_add_usize(start, 1));
+    let form = rows::byte(list, start.wrapping_add(1));
+    let row = Row { list, start };
     let end = match rows::byte(list, start) {
-        b's' => sheets::answer(form, list, start, at),
-        b't' => times::answer(form, list, start, at),
-        b'l' => lists::answer(form, list, start, at),
-        b'w' => walks::answer(form, list, start, at),
-        b'p' => lines::answer(form, list, start, at),
-        _ => rows::MISSED,
+        b's' => sheets::answer(form, row, Some(at)),
+        b't' => times::answer(form, row, Some(at)),
+        b'l' => lists::answer(form, row, Some(at)),
+        b'w' => walks::answer(form, row, Some(at)),
+        b'p' => lines::answer(form, row, Some(at)),
+        _ => None,
     };
     rows::end(tally, list, at, end)
 }

@@ -1,145 +1,142 @@
 // Rows about times: what is answered in each form. A response is written with its deadline, as 8/12 or late/20. A row has the figures: the table, what is asked of it, and what is replaced in it (timed_tables::table).
+use crate::row::Row;
 use crate::timed_tables;
-use analysis::{Assessment, Entry, Interval, Outcome};
+use analysis::{Assessment, Entry, Outcome};
+use places::refusal::Refusal;
 use sheet::Table;
 
-// Says a refusal, or nothing for 0.
-fn say_refusal(list: &[u8], at: usize, refusal: u8) -> usize {
-    if refusal == 0 {
-        return at;
-    }
-    let named = rows::say(list, at, b" refused");
-    rows::say_spaced(list, named, refusal as u64)
+// Says a refusal.
+fn say_refusal(row: Row, at: Option<usize>, refusal: Refusal) -> Option<usize> {
+    let named = row.say(at, b" refused");
+    row.say_spaced(named, refusal.number() as u64)
 }
 
 // Says a response.
-fn say_outcome(list: &[u8], at: usize, outcome: Outcome) -> usize {
+fn say_outcome(row: Row, at: Option<usize>, outcome: Outcome) -> Option<usize> {
     match outcome {
-        Outcome::OnTime(time) => rows::say_spaced(list, at, time as u64),
-        Outcome::Late => rows::say(list, at, b" late"),
+        Outcome::OnTime(time) => row.say_spaced(at, time as u64),
+        Outcome::Late => row.say(at, b" late"),
     }
 }
 
 // Whether a response is the time 0.
 fn is_nothing(outcome: Outcome) -> bool {
-    match outcome {
-        Outcome::OnTime(time) => time == 0,
-        Outcome::Late => false,
-    }
+    matches!(outcome, Outcome::OnTime(0))
 }
 
 // Says an entry, or nothing for time 0 beside deadline 0.
-fn say_entry(list: &[u8], at: usize, entry: Entry) -> usize {
+fn say_entry(row: Row, at: Option<usize>, entry: Entry) -> Option<usize> {
     let outcome = entry.outcome;
     if (entry.deadline == 0) & is_nothing(outcome) {
         return at;
     }
-    let timed = say_outcome(list, at, outcome);
-    let stroke = rows::say(list, timed, b"/");
-    rows::say_number(list, stroke, entry.deadline as u64)
+    let timed = say_outcome(row, at, outcome);
+    let stroke = row.say(timed, b"/");
+    row.say_number(stroke, entry.deadline as u64)
 }
 
 // Says eight entries.
-fn say_entries(list: &[u8], at: usize, entries: [Entry; 8]) -> usize {
+fn say_entries(row: Row, at: Option<usize>, entries: [Entry; 8]) -> Option<usize> {
     let mut end = at;
-    let mut place: usize = 0;
-    while place < 8 {
-        end = say_entry(list, end, entries[place]);
-        place += 1;
+    for entry in entries {
+        end = say_entry(row, end, entry);
     }
     end
 }
 
-// Says an answer's response times.
-fn say_times(list: &[u8], at: usize, answer: Assessment) -> usize {
-    let entries = answer.entries;
-    let refused = say_refusal(list, at, answer.refusal);
-    say_entries(list, refused, entries)
+// Says an answer's response times, or its refusal.
+fn say_times(row: Row, at: Option<usize>, answer: Result<Assessment, Refusal>) -> Option<usize> {
+    match answer {
+        Ok(assessment) => say_entries(row, at, assessment.entries),
+        Err(refusal) => say_refusal(row, at, refusal),
+    }
 }
 
-// Says an answer's verdict.
-fn say_verdict(list: &[u8], at: usize, answer: Assessment) -> usize {
-    let word = if answer.passes {
-        rows::say(list, at, b" yes")
-    } else {
-        rows::say(list, at, b" no")
-    };
-    say_refusal(list, word, answer.refusal)
+// Says an answer's verdict: no, and its refusal, where it is refused.
+fn say_verdict(row: Row, at: Option<usize>, answer: Result<Assessment, Refusal>) -> Option<usize> {
+    match answer {
+        Ok(assessment) => if assessment.passes {
+            row.say(at, b" yes")
+        } else {
+            row.say(at, b" no")
+        },
+        Err(refusal) => say_refusal(row, row.say(at, b" no"), refusal),
+    }
 }
 
 // Says a table's least interval.
-fn say_interval(list: &[u8], at: usize, table: Table) -> usize {
-    let answer = analysis::least_interval(table);
-    match answer {
-        Interval::Refused(refusal) => say_refusal(list, at, refusal),
-        Interval::Least(interval) => rows::say_spaced(list, at, interval as u64),
-        Interval::Nothing => rows::say(list, at, b" none"),
+fn say_interval(row: Row, at: Option<usize>, table: Table) -> Option<usize> {
+    match analysis::least_interval(table) {
+        Ok(Some(interval)) => row.say_spaced(at, interval as u64),
+        Ok(None) => row.say(at, b" none"),
+        Err(refusal) => say_refusal(row, at, refusal),
     }
 }
 
 // The response times.
-fn times(list: &[u8], start: usize, at: usize) -> usize {
-    let table = timed_tables::table(list, start);
-    say_times(list, at, analysis::assess(table))
+fn times(row: Row, at: Option<usize>) -> Option<usize> {
+    let table = timed_tables::table(row);
+    say_times(row, at, analysis::assess(table))
 }
 
 // The response time at a place, which is asked for.
-fn time(list: &[u8], start: usize, at: usize) -> usize {
-    let place = rows::figure(list, start, 2) as usize;
-    let answer = analysis::response_time(timed_tables::table(list, start), place);
-    let refused = say_refusal(list, at, answer.refusal);
-    say_entry(list, refused, answer.entry)
+fn time(row: Row, at: Option<usize>) -> Option<usize> {
+    let place = row.size(2);
+    match analysis::response_time(timed_tables::table(row), place) {
+        Ok(entry) => say_entry(row, at, entry),
+        Err(refusal) => say_refusal(row, at, refusal),
+    }
 }
 
 // The verdict.
-fn verdict(list: &[u8], start: usize, at: usize) -> usize {
-    let table = timed_tables::table(list, start);
-    say_verdict(list, at, analysis::assess(table))
+fn verdict(row: Row, at: Option<usize>) -> Option<usize> {
+    let table = timed_tables::table(row);
+    say_verdict(row, at, analysis::assess(table))
 }
 
 // The verdict under a choice, which is asked for.
-fn verdict_under(list: &[u8], start: usize, at: usize) -> usize {
-    let table = timed_tables::table(list, start);
-    let choice = rows::choice(rows::figure(list, start, 2));
-    say_verdict(list, at, analysis::assess_choice(table, choice))
+fn verdict_under(row: Row, at: Option<usize>) -> Option<usize> {
+    let table = timed_tables::table(row);
+    let choice = rows::choice(row.figure(2));
+    say_verdict(row, at, analysis::assess_choice(table, choice))
 }
 
 // The times and the verdict, in one answer, under a choice, which is asked for.
-fn both_under(list: &[u8], start: usize, at: usize) -> usize {
-    let table = timed_tables::table(list, start);
-    let choice = rows::choice(rows::figure(list, start, 2));
+fn both_under(row: Row, at: Option<usize>) -> Option<usize> {
+    let table = timed_tables::table(row);
+    let choice = rows::choice(row.figure(2));
     let answer = analysis::assess_choice(table, choice);
-    say_verdict(list, say_times(list, at, answer), answer)
+    say_verdict(row, say_times(row, at, answer), answer)
 }
 
 // The least interval.
-fn interval(list: &[u8], start: usize, at: usize) -> usize {
-    say_interval(list, at, timed_tables::table(list, start))
+fn interval(row: Row, at: Option<usize>) -> Option<usize> {
+    say_interval(row, at, timed_tables::table(row))
 }
 
 // Every call's answer, that of the verdict under 1 1 1 among them.
-fn every(list: &[u8], start: usize, at: usize) -> usize {
-    let table = timed_tables::table(list, start);
+fn every(row: Row, at: Option<usize>) -> Option<usize> {
+    let table = timed_tables::table(row);
     let both = analysis::assess(table);
-    let at = say_times(list, rows::say(list, at, b", times:"), both);
-    let at = rows::say(list, at, b", verdict:");
-    let at = say_verdict(list, at, both);
-    let at = rows::say(list, at, b", verdict under 1 1 1:");
+    let at = say_times(row, row.say(at, b", times:"), both);
+    let at = row.say(at, b", verdict:");
+    let at = say_verdict(row, at, both);
+    let at = row.say(at, b", verdict under 1 1 1:");
     let choice = rows::choice(11100000);
-    let at = say_verdict(list, at, analysis::assess_choice(table, choice));
-    say_interval(list, rows::say(list, at, b", least interval:"), table)
+    let at = say_verdict(row, at, analysis::assess_choice(table, choice));
+    say_interval(row, row.say(at, b", least interval:"), table)
 }
 
 // The answer of a form of row.
-pub fn answer(form: u8, list: &[u8], start: usize, at: usize) -> usize {
+pub fn answer(form: u8, row: Row, at: Option<usize>) -> Option<usize> {
     match form {
-        b't' => times(list, start, at),
-        b'o' => time(list, start, at),
-        b'v' => verdict(list, start, at),
-        b'c' => verdict_under(list, start, at),
-        b'b' => both_under(list, start, at),
-        b'i' => interval(list, start, at),
-        b'e' => every(list, start, at),
-        _ => rows::MISSED,
+        b't' => times(row, at),
+        b'o' => time(row, at),
+        b'v' => verdict(row, at),
+        b'c' => verdict_under(row, at),
+        b'b' => both_under(row, at),
+        b'i' => interval(row, at),
+        b'e' => every(row, at),
+        _ => None,
     }
 }

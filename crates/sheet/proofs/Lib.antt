@@ -9,7 +9,7 @@ pub mod Ranks
 pub mod ByRank
 pub mod Order
 pub mod Judging
-pub mod Whole
+pub mod Told
 pub mod Stores
 pub mod Agree
 pub mod Return

@@ -12,13 +12,15 @@ use borrow.Author.Tests.{ne_eqb}
 use lib.Dec.{eqb}
 use lib.ListN.{length, get_or, replicate, get_or-replicate}
 use denote.Ref.{Bor}
+use Rattle.std.specs.Prelude.{Result, Ok, Err}
+use Rattle.places.specs.declared.refusal.Refusal.{Refusal}
 use Rattle.places.specs.Refusals.{or_else}
+use Rattle.places.specs.Answered.{numbered}
 use Rattle.places.proofs.Tells.{Tells, holds, fails, ltb-tells}
 use Rattle.places.proofs.Filled.{length-filled, filled_at, filled-past}
 use Rattle.places.proofs.Refusals.{next-of, first_of, none_of}
 use Rattle.sheet.specs.declared.Record.{Record}
 use Rattle.sheet.specs.declared.Table.{Table}
-use Rattle.sheet.specs.declared.Excerpt.{Excerpt}
 use Rattle.sheet.specs.Layout.{count_of, interval_of, round_of, share_of, header_size, table_edition, table_size, size_of, part_of, record_of, sheet_record, room, table_of, no_record, no_table}
 use Rattle.sheet.specs.Rules.{header_refusal, sheet_refusal, table_refusal}
 use Rattle.sheet.specs.Broken.{RuleNumber}
@@ -181,6 +183,7 @@ module _ (sheet : Bor (List ℕ)) (place : ℕ) (broken : place_refusal sheet.no
       let refusal = place_refusal sheet.now place in
       (p.content ∙ beside-refusal refusal _ [] broken, p.block, p.offset ∙ ap (λ (n : ℕ). sheet.ref_ptr.1 + n) (beside-refusal refusal _ 0 broken) ∙ add-zero _)
 
-  -- `record_of`: the number beside such a part
-  pub excerpt-refused : (excerpt : Excerpt) → Excerpted sheet place excerpt → (excerpt.refusal ≡ place_refusal sheet.now place) × (excerpt.part.now ≡ [])
-  excerpt-refused excerpt e = (e.refusal, (part-refused excerpt.part e.part).0)
+  -- `record_of`: no part, and the refusal of the number
+  pub excerpt-refused : (excerpt : Result (Bor (List ℕ)) Refusal) → Excerpted sheet place excerpt → excerpt ≡ Err (numbered (place_refusal sheet.now place))
+  excerpt-refused (Ok part) e = absurd (broken e.0)
+  excerpt-refused (Err refusal) e = ap Err e.1

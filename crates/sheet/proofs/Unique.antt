@@ -14,15 +14,12 @@ use contract.Lifetimes.{Lfts}
 use contract.Monad.{Fun, fact}
 use lib.ListN.{length}
 use denote.Ref.{Bor}
+use Rattle.std.specs.Prelude.{Result, Ok, Err}
+use Rattle.places.specs.declared.refusal.Refusal.{Refusal}
 use Rattle.sheet.specs.declared.Record.{Record}
 use Rattle.sheet.specs.declared.Table.{Table}
-use Rattle.sheet.specs.declared.Said.{Said}
-use Rattle.sheet.specs.declared.Judged.{Judged}
-use Rattle.sheet.specs.declared.Reading.{Reading}
+use Rattle.sheet.specs.declared.Broken.{Broken}
 use Rattle.sheet.specs.declared.Ranked.{Ranked}
-use Rattle.sheet.specs.declared.Writing.{Writing}
-use Rattle.sheet.specs.declared.Start.{Start}
-use Rattle.sheet.specs.declared.Excerpt.{Excerpt}
 use Rattle.sheet.specs.Answers.{Part, Excerpted}
 use Rattle.sheet.proofs.no_record.Reads as zero-record
 use Rattle.sheet.proofs.no_table.Reads as zero-table
@@ -53,48 +50,48 @@ no-record-unique given a b left left' = both
 pub no-table-unique : (given : _) (a b : Table) (left left' : _) → zero-table.Learnt tt given a left → zero-table.Learnt tt given b left' → a ≡ b
 no-table-unique given a b left left' = both
 
-pub said-size-unique : (κs : Lfts 1) (given : _) (a b : Said) (left left' : _) → size-said.Learnt κs given a left → size-said.Learnt κs given b left' → a ≡ b
+pub said-size-unique : (κs : Lfts 1) (given : _) (a b : Result ℕ Refusal) (left left' : _) → size-said.Learnt κs given a left → size-said.Learnt κs given b left' → a ≡ b
 said-size-unique κs given a b left left' = both
 
-pub judge-unique : (κs : Lfts 1) (given : _) (a b : ℕ) (left left' : _) → judged.Learnt κs given a left → judged.Learnt κs given b left' → a ≡ b
+pub judge-unique : (κs : Lfts 1) (given : _) (a b : Result (Unit {0}) Refusal) (left left' : _) → judged.Learnt κs given a left → judged.Learnt κs given b left' → a ≡ b
 judge-unique κs given a b left left' = both
 
-pub read-unique : (κs : Lfts 1) (given : _) (a b : Reading) (left left' : _) → reading.Learnt κs given a left → reading.Learnt κs given b left' → a ≡ b
+pub read-unique : (κs : Lfts 1) (given : _) (a b : Result Table Refusal) (left left' : _) → reading.Learnt κs given a left → reading.Learnt κs given b left' → a ≡ b
 read-unique κs given a b left left' = both
 
-pub read-unjudged-unique : (κs : Lfts 1) (given : _) (a b : Reading) (left left' : _) → unjudged.Learnt κs given a left → unjudged.Learnt κs given b left' → a ≡ b
+pub read-unjudged-unique : (κs : Lfts 1) (given : _) (a b : Result Table Refusal) (left left' : _) → unjudged.Learnt κs given a left → unjudged.Learnt κs given b left' → a ≡ b
 read-unjudged-unique κs given a b left left' = both
 
-pub read-whole-unique : (κs : Lfts 1) (given : _) (a b : Reading) (left left' : _) → whole-reading.Learnt κs given a left → whole-reading.Learnt κs given b left' → a ≡ b
+pub read-whole-unique : (κs : Lfts 1) (given : _) (a b : Result Table Refusal) (left left' : _) → whole-reading.Learnt κs given a left → whole-reading.Learnt κs given b left' → a ≡ b
 read-whole-unique κs given a b left left' = both
 
-pub read-ranked-unique : (κs : Lfts 4) (given : _) (a b : Ranked) (left left' : _) → ranked-reading.Learnt κs given a left → ranked-reading.Learnt κs given b left'
+pub read-ranked-unique : (κs : Lfts 4) (given : _) (a b : Result Ranked Refusal) (left left' : _) → ranked-reading.Learnt κs given a left → ranked-reading.Learnt κs given b left'
     → (a ≡ b) × (left.1.0.now ≡ left'.1.0.now) × (left.1.1.0.now ≡ left'.1.1.0.now) × (left.1.1.1.0.now ≡ left'.1.1.1.0.now)
 read-ranked-unique κs given a b left left' p q = (both p.0 q.0, both p.1.0 q.1.0, both p.1.1.0 q.1.1.0, both p.1.1.1 q.1.1.1)
 
-pub judge-place-unique : (κs : Lfts 1) (given : _) (a b : ℕ) (left left' : _) → place-judged.Learnt κs given a left → place-judged.Learnt κs given b left' → a ≡ b
+pub judge-place-unique : (κs : Lfts 1) (given : _) (a b : Result (Unit {0}) Refusal) (left left' : _) → place-judged.Learnt κs given a left → place-judged.Learnt κs given b left' → a ≡ b
 judge-place-unique κs given a b left left' = both
 
-pub record-start-unique : (κs : Lfts 1) (given : _) (a b : Start) (left left' : _) → started.Learnt κs given a left → started.Learnt κs given b left' → a ≡ b
+pub record-start-unique : (κs : Lfts 1) (given : _) (a b : Result ℕ Refusal) (left left' : _) → started.Learnt κs given a left → started.Learnt κs given b left' → a ≡ b
 record-start-unique κs given a b left left' = both
 
-pub write-unique : (κs : Lfts 1) (given : _) (a b : Writing) (left left' : _) → written.Learnt κs given a left → written.Learnt κs given b left' → (a ≡ b) × (left.1.0.now ≡ left'.1.0.now)
+pub write-unique : (κs : Lfts 1) (given : _) (a b : Result ℕ Refusal) (left left' : _) → written.Learnt κs given a left → written.Learnt κs given b left' → (a ≡ b) × (left.1.0.now ≡ left'.1.0.now)
 write-unique κs given a b left left' p q = (both p.0 q.0, both p.1 q.1)
 
-pub rewrite-unique : (κs : Lfts 2) (given : _) (a b : Writing) (left left' : _) → rewritten.Learnt κs given a left → rewritten.Learnt κs given b left'
+pub rewrite-unique : (κs : Lfts 2) (given : _) (a b : Result ℕ Refusal) (left left' : _) → rewritten.Learnt κs given a left → rewritten.Learnt κs given b left'
     → (a ≡ b) × (left.1.0.now ≡ left'.1.0.now)
 rewrite-unique κs given a b left left' p q = (both p.0 q.0, both p.1 q.1)
 
-pub judge-table-unique : (given : _) (a b : ℕ) (left left' : _) → table-judged.Learnt tt given a left → table-judged.Learnt tt given b left' → a ≡ b
+pub judge-table-unique : (given : _) (a b : Result (Unit {0}) Refusal) (left left' : _) → table-judged.Learnt tt given a left → table-judged.Learnt tt given b left' → a ≡ b
 judge-table-unique given a b left left' = both
 
-pub judge-table-at-unique : (given : _) (a b : Judged) (left left' : _) → table-judged-at.Learnt tt given a left → table-judged-at.Learnt tt given b left' → a ≡ b
+pub judge-table-at-unique : (given : _) (a b : Result (Unit {0}) Broken) (left left' : _) → table-judged-at.Learnt tt given a left → table-judged-at.Learnt tt given b left' → a ≡ b
 judge-table-at-unique given a b left left' = both
 
 pub is-whole-unique : (given : _) (a b : Bool) (left left' : _) → whole-told.Learnt tt given a left → whole-told.Learnt tt given b left' → a ≡ b
 is-whole-unique given a b left left' = both
 
-pub judge-whole-unique : (given : _) (a b : ℕ) (left left' : _) → whole-judged.Learnt tt given a left → whole-judged.Learnt tt given b left' → a ≡ b
+pub judge-whole-unique : (given : _) (a b : Result (Unit {0}) Refusal) (left left' : _) → whole-judged.Learnt tt given a left → whole-judged.Learnt tt given b left' → a ≡ b
 judge-whole-unique given a b left left' = both
 
 -- the same part of the same memory
@@ -111,11 +108,21 @@ same-part sheet place a b p q =
 pub record-part-unique : (κs : Lfts 1) (given : _) (a b : Bor (List ℕ)) (left left' : _) → parted.Learnt κs given a left → parted.Learnt κs given b left' → SamePart a b
 record-part-unique κs given a b left left' = same-part _ _ a b
 
+-- both the same part, or both the same refusal
+abbrev pub SameExcerpt : Result (Bor (List ℕ)) Refusal → Result (Bor (List ℕ)) Refusal → Type 0
+SameExcerpt (Ok a) (Ok b) = SamePart a b
+SameExcerpt (Ok a) (Err e) = ⊥
+SameExcerpt (Err d) (Ok b) = ⊥
+SameExcerpt (Err d) (Err e) = d ≡ e
+
 -- of a result that holds a reference no reading is made; in every model the contract's clause is that the answer is `Excerpted`
-pub record-of-says : {M : Type 1} {𝓤 : Ura M} (𝓛 : Logic 𝓤) (mem : Memory → SProp 𝓤) (run : Routine → Fun 𝓤) (κs : Lfts 1) (given : _) (answer : Excerpt) (left : _)
+pub record-of-says : {M : Type 1} {𝓤 : Ura M} (𝓛 : Logic 𝓤) (mem : Memory → SProp 𝓤) (run : Routine → Fun 𝓤) (κs : Lfts 1) (given : _) (answer : Result (Bor (List ℕ)) Refusal) (left : _)
     → (record_of.clauses 𝓛 mem run κs given).ensures tt answer left ≡ fact 𝓤 (Excerpted given.0 given.1.0 answer)
 record-of-says 𝓛 mem run κs given answer left = refl
 
 -- which leaves one
-pub record-of-unique : (sheet : Bor (List ℕ)) (place : ℕ) (a b : Excerpt) → Excerpted sheet place a → Excerpted sheet place b → (a.refusal ≡ b.refusal) × SamePart a.part b.part
-record-of-unique sheet place a b p q = (both p.refusal q.refusal, same-part sheet place a.part b.part p.part q.part)
+pub record-of-unique : (sheet : Bor (List ℕ)) (place : ℕ) (a b : Result (Bor (List ℕ)) Refusal) → Excerpted sheet place a → Excerpted sheet place b → SameExcerpt a b
+record-of-unique sheet place (Ok a) (Ok b) p q = same-part sheet place a b p.1 q.1
+record-of-unique sheet place (Ok a) (Err e) p q = q.0 p.0
+record-of-unique sheet place (Err d) (Ok b) p q = p.0 q.0
+record-of-unique sheet place (Err d) (Err e) p q = both p.1 q.1

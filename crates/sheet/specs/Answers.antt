@@ -1,15 +1,13 @@
 -- What each public call answers, refusals included, and what it leaves in the lent output.
-use Rattle.std.specs.Prelude.{ℕ, ◌+◌, ◌*◌, ◌≡◌, cond, List, [], ◌++◌, eqb, ltb, length, drop}
+use Rattle.std.specs.Prelude.{ℕ, ◌+◌, ◌*◌, ◌≡◌, cond, List, [], ◌++◌, eqb, ltb, length, drop, Result, Ok, Err}
 use Rattle.std.specs.Borrow.{Bor}
 use Rattle.places.specs.Refusals.{or_else}
+use Rattle.places.specs.declared.refusal.Refusal.{Refusal}
+use Rattle.places.specs.Answered.{numbered}
 use Rattle.sheet.specs.declared.Table.{Table}
-use Rattle.sheet.specs.declared.Said.{Said}
-use Rattle.sheet.specs.declared.Judged.{Judged}
-use Rattle.sheet.specs.declared.Reading.{Reading}
-use Rattle.sheet.specs.declared.Ranked.{Ranked}
-use Rattle.sheet.specs.declared.Writing.{Writing}
-use Rattle.sheet.specs.declared.Start.{Start}
-use Rattle.sheet.specs.declared.Excerpt.{Excerpt}
+use Rattle.sheet.specs.declared.Broken.{Broken}
+use Rattle.sheet.specs.declared.Ranked as figures
+use Rattle.sheet.specs.Told.{Said, Judged, Reading, Ranked, Writing, Start}
 use Rattle.sheet.specs.Layout.{count_of, interval_of, round_of, share_of, sheet_record, start_of, said_size, part_of, table_of, no_table, table_size, sheet_of}
 use Rattle.sheet.specs.Columns.{columns_below, faults_below, ranks_below}
 use Rattle.sheet.specs.Rules.{size_refusal, header_refusal, sheet_refusal, table_refusal, broken_place, whole_sheet_refusal}
@@ -45,6 +43,10 @@ ranked_answer sheet =
       share = figure_of sheet (share_of sheet);
     }
 
+-- the figures of it alone
+abbrev pub figures_told : Ranked → figures.Ranked
+figures_told ranked = record { count = ranked.count; interval = ranked.interval; round = ranked.round; share = ranked.share }
+
 -- the columns after `read_ranked`: the sheet's records by rank, or all as they were
 unfoldable pub columns_left : List ℕ → List ℕ → List ℕ
 columns_left sheet columns = cond (eqb (sheet_refusal sheet) 0) (columns_below (count_of sheet) (sheet_record sheet) columns (count_of sheet)) columns
@@ -56,6 +58,10 @@ faults_left sheet faults = cond (eqb (sheet_refusal sheet) 0) (faults_below (cou
 -- and the ranks
 unfoldable pub ranks_left : List ℕ → List ℕ → List ℕ
 ranks_left sheet ranks = cond (eqb (sheet_refusal sheet) 0) (ranks_below (count_of sheet) (sheet_record sheet) ranks (count_of sheet)) ranks
+
+-- what a call answers that judges records: nothing where no rule is broken, else the refusal of the number, and the place
+unfoldable pub broken_at : Judged → Result Unit Broken
+broken_at judged = cond (eqb judged.refusal 0) (Ok tt) (Err (record { refusal = numbered judged.refusal; place = judged.place }))
 
 -- `judge_table_at`: the table's refusal beside the place of the record that breaks the rule
 unfoldable pub judged_answer : Table → Judged
@@ -107,7 +113,7 @@ pub record Part (sheet : Bor (List ℕ)) (place : ℕ) (part : Bor (List ℕ)) :
   pub offset : part.ref_ptr.1 ≡ sheet.ref_ptr.1 + part_start sheet.now place
   pub content : part.now ≡ part_bytes sheet.now place
 
--- `record_of`: the refusal of `judge_place` beside the part of `record_part`
-pub record Excerpted (sheet : Bor (List ℕ)) (place : ℕ) (excerpt : Excerpt) : Type 0 where
-  pub refusal : excerpt.refusal ≡ place_refusal sheet.now place
-  pub part : Part sheet place excerpt.part
+-- `record_of`: the part of `record_part` where nothing is refused, else the refusal of `judge_place`
+abbrev pub Excerpted : Bor (List ℕ) → ℕ → Result (Bor (List ℕ)) Refusal → Type 0
+Excerpted sheet place (Ok part) = (place_refusal sheet.now place ≡ 0) × Part sheet place part
+Excerpted sheet place (Err refusal) = (place_refusal sheet.now place ≡ 0 → ⊥) × (refusal ≡ numbered (place_refusal sheet.now place))

@@ -4,7 +4,7 @@ use Rattle.places.specs.Places.{some_below}
 use Rattle.places.specs.Refusals.{or_else, first_below}
 use Rattle.sheet.specs.declared.Record.{Record}
 use Rattle.sheet.specs.declared.Table.{Table}
-use Rattle.sheet.specs.declared.Judged.{Judged}
+use Rattle.sheet.specs.Told.{Judged}
 use Rattle.sheet.specs.Layout.{count_of, edition_of, interval_of, round_of, share_of, start_of, said_size, sheet_record, record_at, table_of, is_whole, table_edition}
 
 -- "0 or above" a limit, which is outside 1 to that limit

@@ -133,12 +133,10 @@ pub fn records_of(sheet: &[u8], count: u8) -> [Record; 8]
 {
     let mut records = [crate::no_record(); 8];
     let first = start(sheet);
-    let mut place: usize = 0;
-    while place < count as usize {
+    for place in 0..count as usize {
         let begin = first + 9 * place;
         let end = begin + 9;
         records[place] = record_from(&sheet[begin..end]);
-        place += 1;
     }
     records
 }
@@ -191,10 +189,8 @@ fn put_records(out: &mut [u8], start: usize, records: [Record; 8], count: u8)
     requires good { records_refusal count (record_at records) ≡ 0 }
     ensures { out.new ≡ sets out.old start (joined_below (λ place. record_bytes (record_at records place)) count) }
 {
-    let mut place: usize = 0;
-    while place < count as usize {
+    for place in 0..count as usize {
         put_record(out, start + 9 * place, records[place]);
-        place += 1;
     }
 }
 

@@ -1,11 +1,14 @@
 // Timing sheets in both editions: records and tables, the rules they are judged by, the readers, into a table and into columns by rank, the writer, and one record's own bytes.
-// Every call answers any bytes, numbers and tables; a refusal gives its number, and zeros or an empty part beside it.
+// Every call answers any bytes, numbers and tables; where a rule is broken, with the refusal of the first.
 #![tactic(auto)]
 
 ghost use Rattle.std.specs.Prelude.{◌≡◌};
-ghost use Rattle.sheet.specs.Layout.{no_record, no_table, is_whole};
+ghost use Rattle.places.specs.Answered.{answered};
+ghost use Rattle.sheet.specs.Layout.{count_of, no_record, no_table, is_whole};
 ghost use Rattle.sheet.specs.Rules.{figures_refusal, sheet_refusal, table_refusal, whole_refusal};
-ghost use Rattle.sheet.specs.Answers.{size_answer, judged_answer, read_answer, unjudged_answer, whole_answer, ranked_answer, columns_left, faults_left, ranks_left, write_answer, write_leaves, rewrite_answer, rewrite_leaves, place_refusal, start_answer, Part, Excerpted};
+ghost use Rattle.sheet.specs.Answers.{size_answer, judged_answer, read_answer, unjudged_answer, whole_answer, ranked_answer, columns_left, faults_left, ranks_left, write_answer, write_leaves, rewrite_answer, rewrite_leaves, place_refusal, start_answer, broken_at, figures_told, Part, Excerpted};
+
+use places::refusal::Refusal;
 
 mod columns;
 mod layout;
@@ -32,56 +35,28 @@ pub struct Table {
     pub records: [Record; 8],
 }
 
-// What `said_size` answers: the refusal, or 0 beside the bytes that the sheet has by its header.
+// What `judge_table_at` refuses a table for: the first rule that it breaks, and beside rules 6 to 10 the place of the record that breaks it, else 0.
 #[derive(Clone, Copy)]
-pub struct Said {
-    pub refusal: u8,
-    pub size: usize,
-}
-
-// What `judge_table_at` answers: the refusal, or 0; beside a refusal of rules 6 to 10 the place of the record that breaks the rule, else 0.
-#[derive(Clone, Copy)]
-pub struct Judged {
-    pub refusal: u8,
+pub struct Broken {
+    pub refusal: Refusal,
     pub place: usize,
 }
 
-// What `read`, `read_unjudged` and `read_whole` answer: the refusal, or 0 beside the table.
-#[derive(Clone, Copy)]
-pub struct Reading {
-    pub refusal: u8,
-    pub table: Table,
+impl From<Broken> for Refusal {
+    ghost from_gives = { λ broken refusal. refusal ≡ broken.refusal };
+
+    fn from(broken: Broken) -> Refusal {
+        broken.refusal
+    }
 }
 
-// What `read_ranked` answers: the refusal, or 0 beside the count, the fault interval, the round and our share of it.
+// What `read_ranked` answers of a good sheet: the count, the fault interval, the round and our share of it.
 #[derive(Clone, Copy)]
 pub struct Ranked {
-    pub refusal: u8,
     pub count: u8,
     pub interval: u16,
     pub round: u16,
     pub share: u16,
-}
-
-// What `write` and `rewrite` answer: the refusal, or 0 beside the number of bytes written.
-#[derive(Clone, Copy)]
-pub struct Writing {
-    pub refusal: u8,
-    pub written: usize,
-}
-
-// What `record_start` answers: the refusal, or 0 beside the byte at which the record's nine start.
-#[derive(Clone, Copy)]
-pub struct Start {
-    pub refusal: u8,
-    pub start: usize,
-}
-
-// What `record_of` answers: the refusal, or 0 beside the record's nine bytes within the lent sheet.
-#[derive(Clone, Copy)]
-pub struct Excerpt<'a> {
-    pub refusal: u8,
-    pub part: &'a [u8],
 }
 
 // A record of zeros.
@@ -112,65 +87,63 @@ pub fn no_table() -> Table
 }
 
 // How long a sheet is by its header, whatever bytes are there after it: the refusal of rules 1 to 3, or the bytes of its edition and count.
-pub fn said_size(sheet: &[u8]) -> Said
-    ensures { result ≡ size_answer sheet.now }
+pub fn said_size(sheet: &[u8]) -> Result<usize, Refusal>
+    ensures { result ≡ answered (size_answer sheet.now).refusal (size_answer sheet.now).size }
 {
-    let refusal = rules::judge_size(sheet);
-    if refusal != 0 {
-        return Said { refusal, size: 0 };
-    }
+    rules::judge_size(sheet)?;
     let edition = layout::edition(sheet);
-    Said {
-        refusal: 0,
-        size: layout::size(edition, layout::count(sheet)),
-    }
+    Ok(layout::size(edition, layout::count(sheet)))
 }
 
-// The number of the first rule that the sheet breaks, or 0.
-pub fn judge(sheet: &[u8]) -> u8
-    ensures { result ≡ sheet_refusal sheet.now }
+// The first rule that the sheet breaks.
+pub fn judge(sheet: &[u8]) -> Result<(), Refusal>
+    ensures { result ≡ answered (sheet_refusal sheet.now) tt }
 {
-    let refusal = rules::judge_header(sheet);
-    if refusal != 0 {
-        return refusal;
-    }
-    rules::judge_parts(sheet, layout::count(sheet))
+    good_count(sheet)?;
+    Ok(())
+}
+
+// The same, and the count of a sheet that breaks none.
+fn good_count(sheet: &[u8]) -> Result<u8, Refusal>
+    ensures { result ≡ answered (sheet_refusal sheet.now) (count_of sheet.now) }
+{
+    let count = rules::judge_header(sheet)?;
+    rules::judge_parts(sheet, count)?;
+    Ok(count)
 }
 
 // Rules 2, 5 and 18 on a table's figures.
-fn judge_figures(table: Table) -> u8
-    ensures { result ≡ figures_refusal table }
+fn judge_figures(table: Table) -> Result<(), Refusal>
+    ensures { result ≡ answered (figures_refusal table) tt }
 {
     let edition = layout::edition_for(table.round, table.share);
     if rules::outside(table.count as u16, 8) {
-        return 2;
+        return Err(Refusal::BadCount);
     }
     if table.interval == 0 {
-        return 5;
+        return Err(Refusal::NoInterval);
     }
     if rules::wrong_share(edition, table.round, table.share) {
-        return 18;
+        return Err(Refusal::BadShare);
     }
-    0
+    Ok(())
 }
 
-// The number of the first rule that a table by value breaks, of 2, 5, 18 and 6 to 10, or 0; and the place of the record that breaks it.
-pub fn judge_table_at(table: Table) -> Judged
-    ensures { result ≡ judged_answer table }
+// The first rule that a table by value breaks, of 2, 5, 18 and 6 to 10, and the place of the record that breaks it.
+pub fn judge_table_at(table: Table) -> Result<(), Broken>
+    ensures { result ≡ broken_at (judged_answer table) }
 {
-    let records = table.records;
-    let refusal = judge_figures(table);
-    if refusal != 0 {
-        return Judged { refusal, place: 0 };
+    if let Err(refusal) = judge_figures(table) {
+        return Err(Broken { refusal, place: 0 });
     }
-    rules::judge_records(records, table.count)
+    rules::judge_records(table.records, table.count)
 }
 
-// The number alone.
-pub fn judge_table(table: Table) -> u8
-    ensures { result ≡ table_refusal table }
+// The rule alone.
+pub fn judge_table(table: Table) -> Result<(), Refusal>
+    ensures { result ≡ answered (table_refusal table) tt }
 {
-    judge_table_at(table).refusal
+    Ok(judge_table_at(table)?)
 }
 
 // Whether a round and a share are those of the whole processor.
@@ -181,73 +154,37 @@ pub fn is_whole(round: u16, share: u16) -> bool
 }
 
 // A table's refusal where a whole processor is asked for: its own, then 19 for a shared one.
-pub fn judge_whole(table: Table) -> u8
-    ensures { result ≡ whole_refusal table }
+pub fn judge_whole(table: Table) -> Result<(), Refusal>
+    ensures { result ≡ answered (whole_refusal table) tt }
 {
-    let own = judge_table(table);
-    if own != 0 {
-        return own;
-    }
+    judge_table_at(table)?;
     rules::judge_shared(table)
 }
 
 // The table that a good sheet holds.
-pub fn read(sheet: &[u8]) -> Reading
-    ensures { result ≡ read_answer sheet.now }
+pub fn read(sheet: &[u8]) -> Result<Table, Refusal>
+    ensures { result ≡ answered (read_answer sheet.now).refusal (read_answer sheet.now).table }
 {
-    let of_header = rules::judge_header(sheet);
-    if of_header != 0 {
-        return Reading {
-            refusal: of_header,
-            table: no_table(),
-        };
-    }
-    let table = layout::table_of(sheet);
-    let records = table.records;
-    let of_records = rules::judge_records(records, table.count).refusal;
-    if of_records != 0 {
-        return Reading {
-            refusal: of_records,
-            table: no_table(),
-        };
-    }
-    Reading { refusal: 0, table }
+    let table = read_unjudged(sheet)?;
+    rules::judge_records(table.records, table.count)?;
+    Ok(table)
 }
 
 // The same of a sheet whose header is good, with its records as they stand, good or not.
-pub fn read_unjudged(sheet: &[u8]) -> Reading
-    ensures { result ≡ unjudged_answer sheet.now }
+pub fn read_unjudged(sheet: &[u8]) -> Result<Table, Refusal>
+    ensures { result ≡ answered (unjudged_answer sheet.now).refusal (unjudged_answer sheet.now).table }
 {
-    let header = rules::judge_header(sheet);
-    if header != 0 {
-        return Reading {
-            refusal: header,
-            table: no_table(),
-        };
-    }
-    Reading {
-        refusal: 0,
-        table: layout::table_of(sheet),
-    }
+    rules::judge_header(sheet)?;
+    Ok(layout::table_of(sheet))
 }
 
 // The same as `read` where a whole processor is asked for: the sheet's own refusal, then 19 for a shared one.
-pub fn read_whole(sheet: &[u8]) -> Reading
-    ensures { result ≡ whole_answer sheet.now }
+pub fn read_whole(sheet: &[u8]) -> Result<Table, Refusal>
+    ensures { result ≡ answered (whole_answer sheet.now).refusal (whole_answer sheet.now).table }
 {
-    let reading = read(sheet);
-    if reading.refusal != 0 {
-        return reading;
-    }
-    let table = reading.table;
-    let shared = rules::judge_shared(table);
-    if shared != 0 {
-        return Reading {
-            refusal: shared,
-            table: no_table(),
-        };
-    }
-    reading
+    let table = read(sheet)?;
+    rules::judge_shared(table)?;
+    Ok(table)
 }
 
 // The records of a good sheet as columns by rank, the count less the priority: costs from 0 on, periods from 8, backups from 16, deadlines from 24; beside them the fault priorities, and each record's rank at its place; past the count all stays as it was.
@@ -256,132 +193,85 @@ pub fn read_ranked(
     columns: &mut [u16; 32],
     faults: &mut [u8; 8],
     ranks: &mut [u8; 8],
-) -> Ranked
-    ensures answer { result ≡ ranked_answer sheet.now }
+) -> Result<Ranked, Refusal>
+    ensures answer { result ≡ answered (ranked_answer sheet.now).refusal (figures_told (ranked_answer sheet.now)) }
     ensures fields { columns.new ≡ columns_left sheet.now columns.old }
     ensures faults { faults.new ≡ faults_left sheet.now faults.old }
     ensures ranks { ranks.new ≡ ranks_left sheet.now ranks.old }
 {
-    let refusal = judge(sheet);
-    if refusal != 0 {
-        return Ranked {
-            refusal,
-            count: 0,
-            interval: 0,
-            round: 0,
-            share: 0,
-        };
-    }
-    let count = layout::count(sheet);
+    let count = good_count(sheet)?;
     columns::put_ranked(sheet, count, columns, faults, ranks);
-    Ranked {
-        refusal: 0,
+    Ok(Ranked {
         count,
         interval: layout::interval(sheet),
         round: layout::round(sheet),
         share: layout::share(sheet),
-    }
+    })
 }
 
 // Writes a good table's sheet at the start of the output.
-pub fn write(table: Table, out: &mut [u8]) -> Writing
-    ensures answer { result ≡ write_answer table out.old }
+pub fn write(table: Table, out: &mut [u8]) -> Result<usize, Refusal>
+    ensures answer { result ≡ answered (write_answer table out.old).refusal (write_answer table out.old).written }
     ensures leaves { out.new ≡ write_leaves table out.old }
 {
-    let broken = judge_table(table);
-    if broken != 0 {
-        return Writing {
-            refusal: broken,
-            written: 0,
-        };
-    }
+    judge_table(table)?;
     let edition = layout::edition_for(table.round, table.share);
     let size = layout::size(edition, table.count);
     if out.len() < size {
-        return Writing {
-            refusal: 11,
-            written: 0,
-        };
+        return Err(Refusal::ShortOutput);
     }
     layout::put_sheet(out, table);
-    Writing {
-        refusal: 0,
-        written: size,
-    }
+    Ok(size)
 }
 
 // Reads a sheet and writes its table at the start of the output: the same bytes.
-pub fn rewrite(sheet: &[u8], out: &mut [u8]) -> Writing
-    ensures answer { result ≡ rewrite_answer sheet.now out.old }
+pub fn rewrite(sheet: &[u8], out: &mut [u8]) -> Result<usize, Refusal>
+    ensures answer { result ≡ answered (rewrite_answer sheet.now out.old).refusal (rewrite_answer sheet.now out.old).written }
     ensures leaves { out.new ≡ rewrite_leaves sheet.now out.old }
 {
-    let reading = read(sheet);
-    if reading.refusal != 0 {
-        return Writing {
-            refusal: reading.refusal,
-            written: 0,
-        };
-    }
+    let table = read(sheet)?;
     if out.len() < sheet.len() {
-        return Writing {
-            refusal: 11,
-            written: 0,
-        };
+        return Err(Refusal::ShortOutput);
     }
-    layout::put_sheet(out, reading.table);
-    Writing {
-        refusal: 0,
-        written: sheet.len(),
-    }
+    layout::put_sheet(out, table);
+    Ok(sheet.len())
 }
 
 // The refusal of asking a sheet for the record at a place: the sheet's own, then 12.
-pub fn judge_place(sheet: &[u8], place: usize) -> u8
-    ensures { result ≡ place_refusal sheet.now place }
+pub fn judge_place(sheet: &[u8], place: usize) -> Result<(), Refusal>
+    ensures { result ≡ answered (place_refusal sheet.now place) tt }
 {
-    let refusal = judge(sheet);
-    if refusal != 0 {
-        return refusal;
-    }
-    if place < layout::count(sheet) as usize {
-        0
+    let records = good_count(sheet)?;
+    if place < records as usize {
+        Ok(())
     } else {
-        12
+        Err(Refusal::BadPlace)
     }
 }
 
 // Where the nine bytes of the record at a place start: the refusal of `judge_place`, or the first byte's place in the sheet.
-pub fn record_start(sheet: &[u8], place: usize) -> Start
-    ensures { result ≡ start_answer sheet.now place }
+pub fn record_start(sheet: &[u8], place: usize) -> Result<usize, Refusal>
+    ensures { result ≡ answered (start_answer sheet.now place).refusal (start_answer sheet.now place).start }
 {
-    let refusal = judge_place(sheet, place);
-    if refusal != 0 {
-        return Start { refusal, start: 0 };
-    }
-    Start {
-        refusal: 0,
-        start: layout::start(sheet) + 9 * place,
-    }
+    judge_place(sheet, place)?;
+    Ok(layout::start(sheet) + 9 * place)
 }
 
-// The nine bytes of the record at a place, as a part of the lent sheet; where refused, the empty part at its start.
+// The nine bytes of the record at a place, as a part of the lent sheet; the refusal of `judge_place`.
+pub fn record_of(sheet: &[u8], place: usize) -> Result<&[u8], Refusal>
+    ensures { Excerpted sheet.entry place result }
+{
+    let start = record_start(sheet, place)?;
+    let end = start + 9;
+    Ok(&sheet[start..end])
+}
+
+// The same; where refused, the empty part at the sheet's start.
 pub fn record_part(sheet: &[u8], place: usize) -> &[u8]
     ensures { Part sheet.entry place result }
 {
-    let found = record_start(sheet, place);
-    if found.refusal != 0 {
-        return &sheet[..0];
+    match record_of(sheet, place) {
+        Ok(part) => part,
+        Err(_) => &sheet[..0],
     }
-    let start = found.start;
-    let end = start + 9;
-    &sheet[start..end]
-}
-
-// Both at once: the refusal of `judge_place` beside the part of `record_part`.
-pub fn record_of<'a>(sheet: &'a [u8], place: usize) -> Excerpt<'a>
-    ensures { Excerpted sheet.entry place result }
-{
-    let refusal = judge_place(sheet, place);
-    let part = record_part(sheet, place);
-    Excerpt { refusal, part }
 }

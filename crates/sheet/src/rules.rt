@@ -1,10 +1,13 @@
 // The rules that sheets and tables are judged by, 1 to 10, 18 and 19, as code: over a sheet's header, over the nine bytes of a record within the sheet, and over a table's records.
 // Which priorities earlier records have is kept as sixteen marks, one for each value of the sheet's four bits.
 ghost use Rattle.std.specs.Prelude.{◌≡◌, true, false, ◌≤◌, length, get_or};
-ghost use Rattle.sheet.specs.Layout.{edition_of, size_of, record_of, sheet_record, record_at};
+ghost use Rattle.places.specs.Answered.{answered};
+ghost use Rattle.sheet.specs.Layout.{count_of, edition_of, size_of, record_of, sheet_record, record_at};
 ghost use Rattle.sheet.specs.Rules.{outside, wrong_share, refusal_of, size_refusal, header_refusal, records_refusal, records_judged, shared_refusal};
+ghost use Rattle.sheet.specs.Answers.{broken_at};
 
-use crate::{Judged, Record, Table, layout};
+use crate::{Broken, Record, Table, layout};
+use places::refusal::Refusal;
 
 // Whether a number is 0 or above the limit.
 pub fn outside(x: u16, limit: u16) -> bool
@@ -30,45 +33,43 @@ pub fn wrong_share(edition: u8, round: u16, share: u16) -> bool
 }
 
 // Rules 1 to 3: what keeps a header from saying how long its sheet is.
-pub fn judge_size(sheet: &[u8]) -> u8
-    ensures { result ≡ size_refusal sheet.now }
+pub fn judge_size(sheet: &[u8]) -> Result<(), Refusal>
+    ensures { result ≡ answered (size_refusal sheet.now) tt }
 {
     if sheet.len() < 3 {
-        return 1;
+        return Err(Refusal::ShortSheet);
     }
     let count = layout::count(sheet);
     if outside(count as u16, 8) {
-        return 2;
+        return Err(Refusal::BadCount);
     }
     let edition = layout::edition(sheet);
     if 1 < edition {
-        return 3;
+        return Err(Refusal::ReservedBits);
     }
-    0
+    Ok(())
 }
 
-// Rules 1 to 5, with 1 again after 3, and 18.
-pub fn judge_header(sheet: &[u8]) -> u8
-    ensures { result ≡ header_refusal sheet.now }
+// Rules 1 to 5, with 1 again after 3, and 18; of a good header the count.
+pub fn judge_header(sheet: &[u8]) -> Result<u8, Refusal>
+    ensures { result ≡ answered (header_refusal sheet.now) (count_of sheet.now) }
 {
-    let refusal = judge_size(sheet);
-    if refusal != 0 {
-        return refusal;
-    }
+    judge_size(sheet)?;
     let edition = layout::edition(sheet);
     if sheet.len() < layout::header_size(edition) {
-        return 1;
+        return Err(Refusal::ShortSheet);
     }
-    if sheet.len() != layout::size(edition, layout::count(sheet)) {
-        return 4;
+    let count = layout::count(sheet);
+    if sheet.len() != layout::size(edition, count) {
+        return Err(Refusal::BadLength);
     }
     if layout::interval(sheet) == 0 {
-        return 5;
+        return Err(Refusal::NoInterval);
     }
     if wrong_share(edition, layout::round(sheet), layout::share(sheet)) {
-        return 18;
+        return Err(Refusal::BadShare);
     }
-    0
+    Ok(count)
 }
 
 // Whether the priority is marked; a priority that no mark is kept for is not.
@@ -81,93 +82,82 @@ fn is_marked(marks: &[bool; 16], priority: u8) -> bool
 }
 
 // Rules 6 to 10 on the fields of one record.
-fn judge_fields(task: Record, count: u8, is_taken: bool) -> u8
-    ensures { result ≡ refusal_of count is_taken task }
+fn judge_fields(task: Record, count: u8, is_taken: bool) -> Result<(), Refusal>
+    ensures { result ≡ answered (refusal_of count is_taken task) tt }
 {
     if outside(task.cost, task.deadline) {
-        return 6;
+        return Err(Refusal::BadCost);
     }
     if outside(task.backup, task.deadline) {
-        return 7;
+        return Err(Refusal::BadBackup);
     }
     if task.period < task.deadline {
-        return 8;
+        return Err(Refusal::BadDeadline);
     }
     if outside(task.priority as u16, count as u16) {
-        return 9;
+        return Err(Refusal::BadPriority);
     }
     if is_taken {
-        return 9;
+        return Err(Refusal::BadPriority);
     }
     if outside(task.fault_priority as u16, task.priority as u16) {
-        return 10;
+        return Err(Refusal::BadFaultPriority);
     }
-    0
+    Ok(())
 }
 
 // Rules 6 to 10 for one record of a sheet, given its nine bytes from within the sheet.
-fn judge_record(part: &[u8], count: u8, is_taken: bool) -> u8
+fn judge_record(part: &[u8], count: u8, is_taken: bool) -> Result<(), Refusal>
     requires { length part.now ≡ 9 }
-    ensures { result ≡ refusal_of count is_taken (record_of part.now) }
+    ensures { result ≡ answered (refusal_of count is_taken (record_of part.now)) tt }
 {
     judge_fields(layout::record_from(part), count, is_taken)
 }
 
 // Rules 6 to 10 for each record of a sheet of the right length, in order, part by part.
-pub fn judge_parts(sheet: &[u8], count: u8) -> u8
+pub fn judge_parts(sheet: &[u8], count: u8) -> Result<(), Refusal>
     requires few { count ≤ 8 }
     requires sized { length sheet.now ≡ size_of (edition_of sheet.now) count }
-    ensures { result ≡ records_refusal count (sheet_record sheet.now) }
+    ensures { result ≡ answered (records_refusal count (sheet_record sheet.now)) tt }
 {
     let first = layout::start(sheet);
     let mut marks = [false; 16];
-    let mut place: usize = 0;
-    while place < count as usize {
+    for place in 0..count as usize {
         let begin = first + 9 * place;
         let end = begin + 9;
         let part = &sheet[begin..end];
         let priority = layout::priority_from(part);
-        let refusal = judge_record(part, count, is_marked(&marks, priority));
-        if refusal != 0 {
-            return refusal;
-        }
+        judge_record(part, count, is_marked(&marks, priority))?;
         let value = priority as usize;
         marks[value] = true;
-        place += 1;
     }
-    0
+    Ok(())
 }
 
 // The same for the records of a table, those past the count ignored; with the place of the one that breaks a rule.
-pub fn judge_records(records: [Record; 8], count: u8) -> Judged
+pub fn judge_records(records: [Record; 8], count: u8) -> Result<(), Broken>
     requires { count ≤ 8 }
-    ensures { result ≡ records_judged count (record_at records) }
+    ensures { result ≡ broken_at (records_judged count (record_at records)) }
 {
     let mut marks = [false; 16];
-    let mut place: usize = 0;
-    while place < count as usize {
+    for place in 0..count as usize {
         let task = records[place];
-        let refusal = judge_fields(task, count, is_marked(&marks, task.priority));
-        if refusal != 0 {
-            return Judged { refusal, place };
+        if let Err(refusal) = judge_fields(task, count, is_marked(&marks, task.priority)) {
+            return Err(Broken { refusal, place });
         }
         let value = task.priority as usize;
         marks[value] = true;
-        place += 1;
     }
-    Judged {
-        refusal: 0,
-        place: 0,
-    }
+    Ok(())
 }
 
-// 19 for a shared processor, else 0.
-pub fn judge_shared(table: Table) -> u8
-    ensures { result ≡ shared_refusal table }
+// Whether a whole processor is there, and not a shared one.
+pub fn judge_shared(table: Table) -> Result<(), Refusal>
+    ensures { result ≡ answered (shared_refusal table) tt }
 {
     if crate::is_whole(table.round, table.share) {
-        0
+        Ok(())
     } else {
-        19
+        Err(Refusal::SharedProcessor)
     }
 }

@@ -19,7 +19,6 @@ fn say_column(field: u8) {
 
 // Writes where a trouble is: the input, line and column, the column's name and the task's where there are such.
 fn say_place(input: &[u8], trouble: Trouble) {
-    let name = trouble.name;
     say(b"desk: ");
     quoting::say_input(input);
     say(b": line ");
@@ -30,23 +29,20 @@ fn say_place(input: &[u8], trouble: Trouble) {
         say(b", ");
         say_column(trouble.field);
     }
-    if name.length != 0 {
+    if trouble.name.length != 0 {
         say(b" of ");
-        quoting::say_task(name);
+        quoting::say_task(trouble.name);
     }
     say(b": ");
 }
 
 // Writes why a cell is no number for no other reason: a name's control character, a unit beside it, or no digits.
 fn say_no_number(trouble: Trouble) {
-    let excerpt = trouble.excerpt;
-    let bytes = excerpt.bytes;
-    let first = bytes[0];
     if trouble.field == 7 {
         say(b" has a control character, and no task's name may");
         return;
     }
-    if (b'0' <= first) & (first <= b'9') {
+    if trouble.excerpt.bytes[0].is_ascii_digit() {
         say(b" is no number: it is digits alone, and a unit stands in the header, as in cost (us)");
         return;
     }
@@ -66,8 +62,7 @@ fn say_empty(field: u8) {
 
 // Writes what is wrong with a cell.
 fn say_cell_rule(trouble: Trouble) {
-    let refusal = trouble.refusal;
-    match refusal {
+    match trouble.refusal {
         30 => say_no_number(trouble),
         31 => say(b" is above 18446744073709551615, the largest number that is read"),
         32 => say(b" is one cell too many: there is one for each column, and without a header six"),
@@ -100,8 +95,7 @@ fn say_missing(trouble: Trouble) {
 
 // Writes what is wrong where nothing is to be quoted.
 fn say_line_rule(trouble: Trouble) {
-    let refusal = trouble.refusal;
-    match refusal {
+    match trouble.refusal {
         33 => say_missing(trouble),
         34 => say(b"this is a ninth task, and a sheet has eight at most"),
         35 => say_empty(trouble.field),
@@ -116,7 +110,7 @@ fn say_line_rule(trouble: Trouble) {
 
 // Whether a rule is told without what stands at its place.
 fn is_of_the_line(refusal: u8) -> bool {
-    (refusal == 33) | (refusal == 34) | (refusal == 35) | (refusal == 40) | (refusal == 43)
+    matches!(refusal, 33 | 34 | 35 | 40 | 43)
 }
 
 // Prints what is not understood of an input.
@@ -125,8 +119,7 @@ pub fn print(input: &[u8], trouble: Trouble) {
     if is_of_the_line(trouble.refusal) {
         say_line_rule(trouble);
     } else {
-        let excerpt = trouble.excerpt;
-        quoting::say_excerpt(excerpt);
+        quoting::say_excerpt(trouble.excerpt);
         say_cell_rule(trouble);
     }
     say(b"\n");

@@ -2,87 +2,61 @@
 use intake::sheets::Given;
 use sheet::{Record, Table};
 
-// A sheet with sixteen bits at a place, where there is room.
-fn with_pair(given: Given, at: usize, number: u16) -> Given {
-    if 79 <= at {
-        return given;
-    }
-    let mut bytes = given.bytes;
-    bytes[at] = (number / 256) as u8;
-    bytes[at + 1] = (number % 256) as u8;
-    Given {
-        bytes,
-        length: given.length,
-        is_read: given.is_read,
-    }
+// Twice four bits in a byte.
+fn halves(high: u8, low: u8) -> u8 {
+    (high % 16) * 16 + low % 16
 }
 
-// The same with twice four bits.
-fn with_halves(given: Given, at: usize, high: u8, low: u8) -> Given {
-    if 80 <= at {
-        return given;
-    }
-    let mut bytes = given.bytes;
-    bytes[at] = (high % 16) * 16 + low % 16;
-    Given {
-        bytes,
-        length: given.length,
-        is_read: given.is_read,
-    }
+// A record's nine bytes.
+fn record_bytes(record: &Record) -> [u8; 9] {
+    let [cost, cost_low] = record.cost.to_be_bytes();
+    let [backup, backup_low] = record.backup.to_be_bytes();
+    let [deadline, deadline_low] = record.deadline.to_be_bytes();
+    let [period, period_low] = record.period.to_be_bytes();
+    [
+        cost,
+        cost_low,
+        backup,
+        backup_low,
+        deadline,
+        deadline_low,
+        period,
+        period_low,
+        halves(record.priority, record.fault_priority),
+    ]
 }
 
-// The same with a record's nine bytes from a place on.
-fn with_record(given: Given, at: usize, record: Record) -> Given {
-    if 80 <= at {
-        return given;
-    }
-    let costed = with_pair(given, at, record.cost);
-    let backed = with_pair(costed, at + 2, record.backup);
-    let limited = with_pair(backed, at + 4, record.deadline);
-    let repeated = with_pair(limited, at + 6, record.period);
-    with_halves(repeated, at + 8, record.priority, record.fault_priority)
-}
-
-// Where the record at a place begins, in a sheet for the whole processor or for a share of it.
-fn start(is_whole: bool, place: usize) -> usize {
-    if 8 < place {
-        return 0;
-    }
-    if is_whole {
-        return 3 + 9 * place;
-    }
-    7 + 9 * place
-}
-
-// The edition of such a sheet.
-fn edition(is_whole: bool) -> u8 {
-    if is_whole { 0 } else { 1 }
-}
-
-// A sheet with the records of a table.
-fn with_records(given: Given, is_whole: bool, count: u8, records: [Record; 8]) -> Given {
-    let mut sheet = given;
-    for place in 0..8usize {
-        if place < count as usize {
-            let record = records[place];
-            sheet = with_record(sheet, start(is_whole, place), record);
-        }
-    }
-    sheet
+// The seven bytes in front of the records of a sheet for a share of the processor, which has an edition of its own; of one for the whole, the
+// first three of them.
+fn header(table: &Table, is_whole: bool) -> [u8; 7] {
+    let [interval, interval_low] = table.interval.to_be_bytes();
+    let [round, round_low] = table.round.to_be_bytes();
+    let [share, share_low] = table.share.to_be_bytes();
+    let edition = if is_whole { 0 } else { 1 };
+    [
+        halves(table.count, edition),
+        interval,
+        interval_low,
+        round,
+        round_low,
+        share,
+        share_low,
+    ]
 }
 
 // The bytes of a table of at most eight records.
 pub fn packed(table: Table) -> Given {
-    let records = table.records;
     let is_whole = sheet::is_whole(table.round, table.share);
-    let empty = Given {
-        bytes: [0u8; 80],
-        length: start(is_whole, table.count as usize),
-        is_read: true,
-    };
-    let counted = with_halves(empty, 0, table.count, edition(is_whole));
-    let timed = with_pair(counted, 1, table.interval);
-    let rounded = with_pair(timed, 3, table.round);
-    let shared = with_pair(rounded, 5, table.share);
-    with_records(shared, is_whole, table.count, records)
+    let start: usize = if is_whole { 3 } else { 7 };
+    let count = table.count.min(8) as usize;
+    let mut bytes = [0u8; 80];
+    bytes[..7].copy_from_slice(&header(&table, is_whole));
+    let places = bytes[start..].chunks_exact_mut(9);
+    for (place, record) in places.zip(table.records.iter().take(count)) {
+        place.copy_from_slice(&record_bytes(record));
+    }
+    Given {
+        bytes,
+        length: start + 9 * count,
+    }
 }

@@ -9,15 +9,12 @@ use streams::{input, parts};
 fn say_byte(byte: u8) {
     if byte == b'\t' {
         explanation::say(b"\\t");
-        return;
-    }
-    if (byte < 32) | (byte == 127) {
+    } else if byte.is_ascii_control() {
         explanation::say(b"\\x");
-        io::print_hex(STDERR_FILENO, byte as u64, 2);
-        return;
+        io::print_hex(STDERR_FILENO, u64::from(byte), 2);
+    } else {
+        explanation::say(&[byte]);
     }
-    let one = [byte];
-    explanation::say(&one);
 }
 
 // Writes bytes, each as it is shown.
@@ -29,18 +26,16 @@ fn say_bytes(bytes: &[u8]) {
 
 // Writes what stands at a place, between quotes.
 pub fn say_excerpt(excerpt: Excerpt) {
-    let bytes = excerpt.bytes;
-    let length = parts::part(excerpt.length as usize, &bytes);
+    let length = parts::part(excerpt.length as usize, &excerpt.bytes);
     explanation::say(b"'");
-    say_bytes(&bytes[..length]);
+    say_bytes(&excerpt.bytes[..length]);
     explanation::say(b"'");
 }
 
 // Writes a task's name.
 pub fn say_task(name: Name) {
-    let bytes = name.bytes;
-    let length = parts::part(name.length as usize, &bytes);
-    say_bytes(&bytes[..length]);
+    let length = parts::part(name.length as usize, &name.bytes);
+    say_bytes(&name.bytes[..length]);
 }
 
 // Writes the name of an input.

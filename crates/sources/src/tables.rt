@@ -6,37 +6,30 @@ use sheet::{Record, Table};
 use text::Fitted;
 
 // Whether a priority of a task is above the count.
-fn is_above(task: Task, count: u8) -> bool {
-    let numbers = task.numbers;
-    ((count as u64) < numbers[0]) | ((count as u64) < numbers[1])
+fn is_above(task: &Task, count: u8) -> bool {
+    let most = u64::from(count);
+    most < task.numbers[0] || most < task.numbers[1]
 }
 
 // The first place of a task with a priority above the count, or the count.
-fn first_high(figures: Figures) -> u8 {
-    let tasks = figures.tasks;
-    for place in 0..8u8 {
-        if place < figures.count {
-            let task = tasks[place as usize];
-            if is_above(task, figures.count) {
-                return place;
-            }
-        }
-    }
-    figures.count
+fn first_high(figures: Figures) -> usize {
+    let count = figures.count as usize;
+    let mut tasks = figures.tasks.iter().take(count);
+    tasks
+        .position(|task| is_above(task, figures.count))
+        .unwrap_or(count)
 }
 
-// Writes the line of a task and its name.
+// Writes the line of the task at a place and its name.
 fn say_task_at(tasks: [Task; 8], place: usize) {
-    if 8 <= place {
+    let Some(task) = tasks.get(place) else {
         return;
-    }
-    let task = tasks[place];
-    let name = task.name;
+    };
     say(b"line ");
     quoting::say_number(task.line);
-    if name.length != 0 {
+    if task.name.length != 0 {
         say(b", ");
-        quoting::say_task(name);
+        quoting::say_task(task.name);
     }
     say(b": ");
 }
@@ -86,10 +79,6 @@ fn say_record_rule(record: Record, count: u8, refusal: u8) {
 
 // Writes the rule that a table breaks.
 fn say_rule(figures: Figures, table: Table, refusal: u8) {
-    let judged = sheet::judge_table_at(table);
-    let place = judged.place;
-    let tasks = figures.tasks;
-    let records = table.records;
     match refusal {
         2 => say(b"there is no task, and a sheet has 1 to 8"),
         5 => say(b"the fault interval is 0, and must be 1 at least"),
@@ -97,9 +86,13 @@ fn say_rule(figures: Figures, table: Table, refusal: u8) {
             b"the share is 0 or not below the round; a whole processor is a text without both",
         ),
         _ => {
-            if place < 8 {
-                say_task_at(tasks, place);
-                say_record_rule(records[place], table.count, refusal);
+            let place = match sheet::judge_table_at(table) {
+                Ok(()) => 0,
+                Err(broken) => broken.place,
+            };
+            if let Some(record) = table.records.get(place) {
+                say_task_at(figures.tasks, place);
+                say_record_rule(*record, table.count, refusal);
             }
         }
     }
@@ -107,15 +100,13 @@ fn say_rule(figures: Figures, table: Table, refusal: u8) {
 
 // Writes why a number is too large, and at which scale all fit.
 fn say_too_large(figures: Figures, least: u64) {
-    let tasks = figures.tasks;
-    let high = first_high(figures);
     if least != 0 {
         say(b"a number is above 65,535, the largest of a sheet; --scale ");
         quoting::say_number(least);
         say(b" makes all fit");
         return;
     }
-    say_task_at(tasks, high as usize);
+    say_task_at(figures.tasks, first_high(figures));
     say(b"a priority or fault priority is above the number of tasks, ");
     quoting::say_number(figures.count as u64);
 }
@@ -125,12 +116,11 @@ pub fn print(input: &[u8], figures: Figures, scale: u64, fitted: Fitted) {
     say(b"desk: ");
     quoting::say_input(input);
     say(b": ");
-    let refusal = fitted.refusal;
-    match refusal {
+    match fitted.refusal {
         31 => say_too_large(figures, fitted.least),
         45 => say(b"the scale does not divide round and share, which cannot be rounded"),
         46 => say(b"a scale is 1 at least"),
-        _ => say_rule(figures, text::unjudged(figures, scale), refusal),
+        refusal => say_rule(figures, text::unjudged(figures, scale), refusal),
     }
     say(b"\n");
 }

@@ -6,27 +6,22 @@ use lines::Task;
 use sheet::Table;
 use streams::words::Asked;
 
-// A good sheet's table and its tasks as its text has them, or that it is none, which is told.
+// A good sheet's table, and its tasks as its text has them.
 #[derive(Clone, Copy)]
 pub struct Taken {
     pub table: Table,
     pub tasks: [Task; 8],
-    pub is_good: bool,
 }
 
-// Reads the sheet that an argument names, and tells why it is not good.
-pub fn table(rt: HostRuntime, asked: Asked, place: usize) -> Taken {
-    let source = inputs::sheet_at(rt, asked, place);
-    let given = source.given;
+// Reads the sheet that an argument names, or tells why it is not good.
+pub fn table(rt: HostRuntime, asked: Asked, place: usize) -> Option<Taken> {
+    let source = inputs::sheet_at(rt, asked, place)?;
     let tasks = source.tasks;
-    let reading = sheets::reading(given);
-    let table = reading.table;
-    if source.is_taken & (reading.refusal != 0) {
-        refusals::print_of(rt, given, reading.refusal, asked.is_explained);
-    }
-    Taken {
-        table,
-        tasks,
-        is_good: source.is_taken & (reading.refusal == 0),
+    match sheets::reading(source.given) {
+        Ok(table) => Some(Taken { table, tasks }),
+        Err(refusal) => {
+            refusals::print_of(rt, source.given, refusal.number(), asked.is_explained);
+            None
+        }
     }
 }

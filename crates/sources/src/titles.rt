@@ -6,25 +6,22 @@ use streams::parts;
 
 // A line with a name, where it is one.
 fn with_name(line: Line, name: Name) -> Line {
-    let bytes = name.bytes;
-    let length = parts::part(name.length as usize, &bytes);
-    report::titled_line(line, &bytes[..length])
+    let length = parts::part(name.length as usize, &name.bytes);
+    report::titled_line(line, &name.bytes[..length])
 }
 
 // The line of the task at a place, from 0, with its name where there is one.
-pub fn titled(line: Line, tasks: [Task; 8], place: u8) -> Line {
-    if 8 <= place {
-        return line;
+pub fn titled(line: Line, tasks: &[Task; 8], place: u8) -> Line {
+    match tasks.get(place as usize) {
+        Some(task) => with_name(line, task.name),
+        None => line,
     }
-    let task = tasks[place as usize];
-    let name = task.name;
-    with_name(line, name)
 }
 
 // The same of the task at a place from 1.
-pub fn titled_from_1(line: Line, tasks: [Task; 8], place: u8) -> Line {
-    if place == 0 {
-        return line;
+pub fn titled_from_1(line: Line, tasks: &[Task; 8], place: u8) -> Line {
+    match place.checked_sub(1) {
+        Some(place) => titled(line, tasks, place),
+        None => line,
     }
-    titled(line, tasks, place - 1)
 }

@@ -1,10 +1,10 @@
--- A test that tells exactly the dash is `is_dash`. Assumes nothing.
-use Rattle.std.proofs.Common.{◌≡◌, ℕ, refl, sym, ap, Bool, true, false, List, [], ◌∷◌, arith}
+-- Comparing a name with the dash byte by byte tells what `is_dash` says. Assumes nothing.
+use Rattle.std.proofs.Common.{◌≡◌, ℕ, refl, List, [], ◌∷◌, eqb, arith}
+use lib.Pointwise.{pointwise}
 use Rattle.streams.specs.Inputs.{is_dash}
 
-pub dash-told : (told : Bool) (name : List ℕ) → (told ≡ true → name ≡ 45 ∷ []) × (name ≡ 45 ∷ [] → told ≡ true) → told ≡ is_dash name
+pub dash-told : (name : List ℕ) → pointwise eqb name (45 ∷ []) ≡ is_dash name
 unfolding is_dash
-dash-told true name same = sym (ap is_dash (same.0 refl))
-dash-told false [] same = refl
-dash-told false (byte ∷ []) same = grind arith
-dash-told false (byte ∷ next ∷ rest) same = refl
+dash-told [] = refl
+dash-told (byte ∷ []) = grind arith
+dash-told (byte ∷ next ∷ rest) = grind arith

@@ -1,24 +1,36 @@
 // How a command ends, in the statuses of the run command, and how the program is asked for it.
 ghost use Rattle.std.specs.Prelude.{◌≡◌};
-ghost use Rattle.streams.specs.Endings.{first_place, ends_in};
+ghost use Rattle.streams.specs.Endings.{first_place, ends_in, status_of};
 
 use crate::descriptors::STATUS_FILENO;
 use crate::{reasons, words};
 use std::io::{Error, ErrorKind};
 
-// The sheet passes, the record is accepted, nothing is missed, what was looked for is found.
-pub const HOLDS: u8 = 0;
+// How a command ends, the better first: the sheet passes, the record is accepted, nothing is missed, what was looked for is found; some task
+// is late, the record differs, a job is missed, there is none; something is refused, or could not be read or written; nobody reads standard
+// output any more.
+#[derive(Clone, Copy, PartialEq, Eq, PartialOrd, Ord)]
+pub enum Ending {
+    Holds,
+    Fails,
+    Trouble,
+    Unread,
+}
 
-// Some task is late, the record differs, a job is missed, there is none.
-pub const FAILS: u8 = 1;
+impl From<Ending> for u8 {
+    ghost from_gives = { λ ending status. status ≡ status_of ending };
 
-// Something is refused, or could not be read or written.
-pub const TROUBLE: u8 = 2;
+    fn from(ending: Ending) -> u8 {
+        match ending {
+            Ending::Holds => 0,
+            Ending::Fails => 1,
+            Ending::Trouble => 2,
+            Ending::Unread => 3,
+        }
+    }
+}
 
-// Nobody reads standard output any more.
-pub const UNREAD: u8 = 3;
-
-// The first argument: none that is known, `status`, `explain`.
+// The first argument: none that is known, `status`, `explain`. These stay numbers: `first` promises its place of every one (`first-unique`).
 pub const NOTHING: u8 = 0;
 
 pub const STATUS: u8 = 1;
@@ -27,15 +39,12 @@ pub const EXPLAIN: u8 = 2;
 
 // What the first argument asks for.
 pub fn asked(rt: HostRuntime) -> u8 {
-    let mut word = [0u8; 16];
-    let length = words::put(rt, 1, &mut word);
-    if check::same(&word[..length], b"explain") {
-        return EXPLAIN;
+    let mut buffer = [0u8; 16];
+    match words::put(rt, 1, &mut buffer) {
+        b"explain" => EXPLAIN,
+        b"status" => STATUS,
+        _ => NOTHING,
     }
-    if check::same(&word[..length], b"status") {
-        return STATUS;
-    }
-    NOTHING
 }
 
 // The place of the first argument after that.
@@ -48,30 +57,30 @@ pub fn first(word: u8) -> u8
 
 // How a command ends by what it asks.
 #[tactic(auto, unfolding(crate::specs::Endings::ends_in))]
-pub fn of(holds: bool) -> u8
-    ensures { result ≡ ends_in holds }
+pub fn of(holds: bool) -> Ending
+    ensures { status_of result ≡ ends_in holds }
 {
-    if holds { HOLDS } else { FAILS }
+    if holds { Ending::Holds } else { Ending::Fails }
 }
 
 // Tells how the command ended, if that was asked for.
-pub fn tell(word: u8, ending: u8) {
+pub fn tell(word: u8, ending: Ending) {
     if word != NOTHING {
-        io::print_decimal(STATUS_FILENO, ending as u64);
+        io::print_decimal(STATUS_FILENO, u64::from(u8::from(ending)));
     }
 }
 
 // Says why the answer could not be written, but where nobody reads it: then the run command ends as a program does that the system ends for it.
-pub fn failed(error: Error) -> u8 {
+pub fn failed(error: Error) -> Ending {
     if error.kind() == ErrorKind::BrokenPipe {
-        return UNREAD;
+        return Ending::Unread;
     }
     reasons::say(b"standard output", &error);
-    TROUBLE
+    Ending::Trouble
 }
 
 // How a command ends whose lines were written, or not.
-pub fn ended(written: Result<(), Error>, ending: u8) -> u8 {
+pub fn ended(written: Result<(), Error>, ending: Ending) -> Ending {
     match written {
         Ok(()) => ending,
         Err(error) => failed(error),

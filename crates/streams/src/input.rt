@@ -3,7 +3,6 @@
 // A proved loop has to end, so where no buffer fills the turns are counted, up to a number that no input uses up.
 ghost use Rattle.std.specs.Prelude.{◌≡◌};
 ghost use Rattle.std.specs.Io.{ReadsAtMost};
-ghost use Rattle.io.specs.Counts.{IsPrefixLen};
 ghost use Rattle.streams.specs.Inputs.{is_dash};
 
 use crate::descriptors::STDERR_FILENO;
@@ -18,50 +17,45 @@ pub enum Opened {
     Named(File),
 }
 
-// How far the input filled a buffer: it ended after so many bytes, it has a byte for each place, or it could not be read.
-#[derive(Drop)]
-pub enum Filled {
-    Ended(usize),
-    Full,
-    Failed(Error),
-}
-
-// Puts an argument at the start of the buffer, or `-` for the argument that is none, at place 0: how long the name is.
-pub fn name(rt: HostRuntime, place: usize, buffer: &mut [u8]) -> usize
-    ensures { IsPrefixLen result buffer.new }
-{
-    if place != 0 {
-        return words::put(rt, place, buffer);
+// The argument at a place, at the start of a buffer, or `-` for the argument that is none, at place 0.
+pub fn name(rt: HostRuntime, place: usize, buffer: &mut [u8]) -> &[u8] {
+    if place == 0 {
+        return b"-";
     }
-    if buffer.len() == 0 {
-        return 0;
-    }
-    buffer[0] = b'-';
-    1
+    words::put(rt, place, buffer)
 }
 
 // Whether a name is that of standard input, or of standard output.
 pub fn is_standard(name: &[u8]) -> bool
     ensures { result ≡ is_dash name.now }
 {
-    check::same(name, b"-")
+    name == b"-".as_slice()
 }
 
 // Says why a call failed, of an input's name.
 pub fn say_why(name: &[u8], error: Error) {
-    if is_standard(name) {
-        reasons::say(b"standard input", &error);
-        return;
+    let what = if is_standard(name) {
+        b"standard input"
+    } else {
+        name
+    };
+    reasons::say(what, &error);
+}
+
+// What a call gave, or none where it failed, of an input's name, and it is said why.
+pub fn told<T: Drop>(given: Result<T, Error>, name: &[u8]) -> Option<T> {
+    match given {
+        Ok(value) => Some(value),
+        Err(error) => {
+            say_why(name, error);
+            None
+        }
     }
-    reasons::say(name, &error);
 }
 
 // A name as a path, which is text.
 pub fn path(name: &[u8]) -> Result<&str, Error> {
-    match str::from_utf8(name) {
-        Ok(path) => Ok(path),
-        Err(_) => Err(Error::from(ErrorKind::InvalidFilename)),
-    }
+    str::from_utf8(name).map_err(|_| Error::from(ErrorKind::InvalidFilename))
 }
 
 // Opens a file for reading.
@@ -80,13 +74,8 @@ pub fn open(rt: HostRuntime, name: &[u8]) -> Option<Opened> {
         }
         return Some(Opened::Standard(rt.stdin()));
     }
-    match open_file(rt, name) {
-        Ok(file) => Some(Opened::Named(file)),
-        Err(error) => {
-            say_why(name, error);
-            None
-        }
-    }
+    let file = told(open_file(rt, name), name)?;
+    Some(Opened::Named(file))
 }
 
 // Closes an input that was opened.
@@ -121,39 +110,46 @@ pub fn read(opened: &mut Opened, buffer: &mut [u8]) -> Result<usize, Error>
     Err(Error::from(ErrorKind::Interrupted))
 }
 
-// Reads until the buffer is full, the input ends or a read fails.
-pub fn fill(opened: &mut Opened, buffer: &mut [u8]) -> Filled {
+// Reads until the buffer is full, the input ends or a read fails: how many bytes there are, fewer than the buffer has places for where the
+// input ended. The place is not counted by one: each read moves it by what it got.
+pub fn fill(opened: &mut Opened, buffer: &mut [u8]) -> Result<usize, Error>
+    ensures { ReadsAtMost result buffer.new }
+{
     let mut held: usize = 0;
     while held < buffer.len() {
-        match read(opened, &mut buffer[held..]) {
-            Ok(more) => {
-                if more == 0 {
-                    return Filled::Ended(held);
-                }
-                held += more;
-            }
-            Err(error) => return Filled::Failed(error),
+        let more = read(opened, &mut buffer[held..])?;
+        if more == 0 {
+            break;
         }
+        held += more;
     }
-    Filled::Full
+    Ok(held)
 }
 
-// Reads the rest of the input and drops it: whether its end was reached, or why it could not be read.
-pub fn is_read_to_its_end(opened: &mut Opened) -> Result<bool, Error> {
-    let mut dropped = io::large_buffer();
+// Reads an input to its end in pieces of one buffer, and hands each piece on.
+pub fn read_parts<F: FnMut(&[u8])>(opened: &mut Opened, mut take: F) -> Result<(), Error>
+    requires { F.IsAlwaysCallable take }
+{
+    let mut buffer = io::large_buffer();
     for _ in 0..u64::MAX {
-        if read(opened, &mut dropped)? == 0 {
-            return Ok(true);
+        let held = read(opened, &mut buffer)?;
+        if held == 0 {
+            return Ok(());
         }
+        take(&buffer[..held]);
     }
-    Ok(false)
+    Err(Error::from(ErrorKind::Interrupted))
+}
+
+// Reads the rest of an input and drops it.
+pub fn read_to_its_end(opened: &mut Opened) -> Result<(), Error> {
+    read_parts(opened, |_| ())
 }
 
 // Whether a word is the name of standard input.
 pub fn is_standard_at(rt: HostRuntime, place: usize) -> bool {
-    let mut word = io::buffer();
-    let length = name(rt, place, &mut word);
-    is_standard(&word[..length])
+    let mut buffer = io::buffer();
+    is_standard(name(rt, place, &mut buffer))
 }
 
 // Whether two words are both the name of standard input, which can be read once.

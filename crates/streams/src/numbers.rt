@@ -1,37 +1,21 @@
 // Numbers among the words.
 use crate::words;
 
-// A word as a number: 255 for those above, or that it is none.
-#[derive(Clone, Copy)]
-pub enum Parsed {
-    Number(u8),
-    Nothing,
-}
-
-// A number with one more digit, 255 where it is above that.
-fn longer(number: u8, digit: u8) -> u8 {
-    let long = number as u64 * 10 + (digit % 10) as u64;
-    if long < 255 { long as u8 } else { 255 }
-}
-
-// The number that a word of digits spells.
-fn spelt(word: &[u8]) -> Parsed {
-    let mut number: u8 = 0;
+// The number that a word of digits spells, 255 for those above, or none where it is no number.
+fn spelt(word: &[u8]) -> Option<u8> {
+    let mut number = None;
     for byte in word {
-        if (*byte < b'0') | (b'9' < *byte) {
-            return Parsed::Nothing;
+        if !byte.is_ascii_digit() {
+            return None;
         }
-        number = longer(number, *byte % 16);
+        let tens = number.unwrap_or(0u8).saturating_mul(10);
+        number = Some(tens.saturating_add(*byte - b'0'));
     }
-    if word.len() == 0 {
-        return Parsed::Nothing;
-    }
-    Parsed::Number(number)
+    number
 }
 
 // The number that an argument spells.
-pub fn word(rt: HostRuntime, place: usize) -> Parsed {
-    let mut word = io::buffer();
-    let length = words::put(rt, place, &mut word);
-    spelt(&word[..length])
+pub fn word(rt: HostRuntime, place: usize) -> Option<u8> {
+    let mut buffer = io::buffer();
+    spelt(words::put(rt, place, &mut buffer))
 }

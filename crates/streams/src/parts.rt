@@ -8,9 +8,5 @@ pub fn part(length: usize, bytes: &[u8]) -> usize
     ensures prefix_len { IsPrefixLen result bytes.now }
     ensures value { result ≡ part_of length bytes.now }
 {
-    if length < bytes.len() {
-        length
-    } else {
-        bytes.len()
-    }
+    length.min(bytes.len())
 }

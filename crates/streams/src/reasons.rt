@@ -18,23 +18,15 @@ fn without_number(text: &str) -> &str {
     }
 }
 
-// Bytes as text, or none where they are no text.
-fn text(bytes: &[u8]) -> &str {
-    match str::from_utf8(bytes) {
-        Ok(text) => text,
-        Err(_) => "",
-    }
-}
-
 // Writes what failed and why.
 pub fn say(what: &[u8], error: &Error) {
     let mut buffer = [0u8; 256];
     let length = put(error, &mut buffer);
     let end = parts::part(length, &buffer);
-    let reason = without_number(text(&buffer[..end]));
+    let text = str::from_utf8(&buffer[..end]).unwrap_or("");
     io::write_all(STDERR_FILENO, b"desk: ");
     io::write_all(STDERR_FILENO, what);
     io::write_all(STDERR_FILENO, b": ");
-    io::write_all(STDERR_FILENO, reason.as_bytes());
+    io::write_all(STDERR_FILENO, without_number(text).as_bytes());
     io::write_all(STDERR_FILENO, b"\n");
 }

@@ -1,10 +1,10 @@
 // The words that the program is given: where those of a command begin, how many there are, and what is said where they are wrong.
 ghost use Rattle.std.specs.Prelude.{◌≡◌};
-ghost use Rattle.io.specs.Counts.{IsPrefixLen};
 ghost use Rattle.streams.specs.Endings.{word_place};
 
 use crate::descriptors::STDERR_FILENO;
-use crate::{endings, parts};
+use crate::endings::Ending;
+use crate::parts;
 use std::env::{Env, FillError};
 
 // How a text is read: whether every sheet is one, whatever its name, whether nothing is said of it on standard error, and its scale.
@@ -14,6 +14,13 @@ pub struct Options {
     pub is_quiet: bool,
     pub scale: u64,
 }
+
+// Where nothing is asked for: a text is one by its name, is told of, and is not scaled.
+pub const NO_OPTIONS: Options = Options {
+    is_text: false,
+    is_quiet: false,
+    scale: 1,
+};
 
 // What the program was asked for beside the command: the place of the first word after it among the arguments, how many words
 // follow, whether a refusal is to be told in words, and how a text is read.
@@ -25,47 +32,27 @@ pub struct Asked {
     pub options: Options,
 }
 
-// Puts the argument at a place at the start of a buffer: how long it is, or 0 where there is none or it has no room.
-pub fn put(rt: HostRuntime, place: usize, buffer: &mut [u8]) -> usize
-    ensures { IsPrefixLen result buffer.new }
-{
-    let length = match rt.arg(place, buffer) {
-        Ok(length) => length,
-        Err(_) => 0,
-    };
-    parts::part(length, buffer)
+// The argument at a place, at the start of a buffer: none of its bytes where there is none or it has no room.
+pub fn put(rt: HostRuntime, place: usize, buffer: &mut [u8]) -> &[u8] {
+    let length = rt.arg(place, buffer).unwrap_or(0);
+    &buffer[..parts::part(length, buffer)]
 }
 
 // Whether there is an argument at a place.
 fn is_given(rt: HostRuntime, place: usize) -> bool {
-    let mut start = [0u8; 1];
-    match rt.arg(place, &mut start) {
-        Ok(_) => true,
-        Err(FillError::TooLong) => true,
-        Err(FillError::NotPresent) => false,
-    }
+    !matches!(rt.arg(place, &mut [0u8; 1]), Err(FillError::NotPresent))
 }
 
 // How many arguments there are from a place on.
 fn count_from(rt: HostRuntime, first: u16) -> usize {
-    let mut count: usize = 0;
-    for place in first as usize..usize::MAX {
-        if !is_given(rt, place) {
-            return count;
-        }
-        count = count.saturating_add(1);
-    }
-    count
+    (first as usize..usize::MAX)
+        .position(|place| !is_given(rt, place))
+        .unwrap_or(usize::MAX)
 }
 
-// What was asked for from a place on, with no options: a text is one by its name, is told of, and is not scaled.
+// What was asked for from a place on, with no options.
 pub fn asked_from(rt: HostRuntime, first: u16, is_explained: bool) -> Asked {
-    let options = Options {
-        is_text: false,
-        is_quiet: false,
-        scale: 1,
-    };
-    asked_with(rt, first, is_explained, options)
+    asked_with(rt, first, is_explained, NO_OPTIONS)
 }
 
 // The same with options.
@@ -86,14 +73,14 @@ pub fn at(asked: Asked, which: u8) -> usize
 }
 
 // Says what is wrong with the words.
-pub fn trouble(what: &[u8]) -> u8 {
+pub fn trouble(what: &[u8]) -> Ending {
     io::write_all(STDERR_FILENO, b"desk: ");
     io::write_all(STDERR_FILENO, what);
     io::write_all(STDERR_FILENO, b"; ./desk help says more\n");
-    endings::TROUBLE
+    Ending::Trouble
 }
 
 // Says that standard input can be read once only.
-pub fn standard_input_twice() -> u8 {
+pub fn standard_input_twice() -> Ending {
     trouble(b"standard input, -, can be read once only")
 }

@@ -1,20 +1,19 @@
 -- The text of a table, read: its figures have the table's numbers, and so does their table. Assumes nothing.
-use Prim.Native.Nat.{ℕ, zero, suc, ◌+◌, ◌-◌, ◌*◌, ◌/◌, ◌%◌, ◌≤◌, ◌<◌, min, max}
-use mathlib.Core.Path.{◌≡◌, refl, sym, ap, ap₂, ◌∙◌, subst}
-use mathlib.Core.Bool.{Bool, true, false, cond, not, ◌&&◌, ◌||◌}
-use mathlib.Core.List.{List, [], ◌∷◌, ◌++◌, append_assoc, append-nil}
-use native.Mathlib.Numerals.{add-one}
+use Prim.Native.Nat.{ℕ, zero, suc, ◌≤◌, ◌<◌}
+use mathlib.Core.Path.{◌≡◌, refl, sym, ap, ◌∙◌, subst}
+use mathlib.Core.Bool.{Bool, true, false, cond}
+use mathlib.Core.List.{List, [], ◌∷◌, ◌++◌, append-nil}
 use native.Mathlib.Decide.{dec_lt}
 use native.Mathlib.Omega.{arith}
-use borrow.Author.Tests.{ne_eqb, eq-eqb, le-ltb, lt-leb, eqb-true}
-use lib.Dec.{eqb, ltb, leb}
-use lib.ListN.{length, get_or, take, drop, set, replicate, length-set}
+use borrow.Author.Tests.{lt-leb, eqb-true}
+use lib.Dec.{eqb}
+use lib.ListN.{length, get_or, take, drop, set, length-set}
 use lib.Seq.{get_or-set_same, get_or-set_other}
 use Rattle.places.specs.Places.{joined_below}
 use Rattle.places.proofs.Tells.{both_true}
 use Rattle.cells.specs.declared.Number.{Number}
 use Rattle.cells.specs.Kinds.{loose}
-use Rattle.cells.specs.Cells.{cells_of, separator_of}
+use Rattle.cells.specs.Cells.{cells_of}
 use Rattle.cells.specs.Numbers.{number_of}
 use Rattle.cells.specs.Raw.{cells_in}
 use Rattle.sheet.specs.declared.Record.{Record}
@@ -41,7 +40,7 @@ use Rattle.text.specs.Answers.{read_answer}
 use Rattle.text.proofs.Lines.{by_lines}
 use Rattle.text.proofs.Rescaled.{Figured}
 use Rattle.text.proofs.Regained.{read-nothing, without, Goes, goes-joined, goes-nothing, goes-remark, goes-row}
-use Rattle.text.proofs.Long.{Narrow, two-narrow, task-narrow}
+use Rattle.text.proofs.Long.{two-narrow, task-narrow}
 use Rattle.text.proofs.Spelt.{words_below, loosely, blankly, row-cells, row-separator, row-alike, decimal-number, decimal-is, decimal-setting, decimal-good}
 
 -- the columns so far: none yet, or those of a text without a header

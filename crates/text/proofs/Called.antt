@@ -1,14 +1,14 @@
 -- A name in quotes: what is put, and what is read again from it. Assumes nothing.
 use Prim.Native.Nat.{ℕ, zero, suc, ◌+◌, ◌-◌, ◌*◌, ◌≤◌, ◌<◌, min}
 use mathlib.Core.Path.{◌≡◌, refl, sym, ap, ap₂, ◌∙◌, subst}
-use mathlib.Core.Bool.{Bool, true, false, cond, not, ◌&&◌, ◌||◌}
+use mathlib.Core.Bool.{Bool, true, false, cond}
 use mathlib.Core.List.{List, [], ◌∷◌, ◌++◌, append_assoc, append-nil}
 use native.Mathlib.Nat.{suc-ne-zero}
 use native.Mathlib.Decide.{dec_lt}
 use native.Mathlib.Omega.{arith}
 use borrow.Author.Tests.{lt-ltb, le-ltb, ne_eqb, eqb-true}
-use lib.Dec.{eqb, ltb}
-use lib.ListN.{length, get_or, take, drop, set, replicate, length-append, length-replicate}
+use lib.Dec.{eqb}
+use lib.ListN.{length, get_or, take, set, replicate, length-append, length-replicate}
 use lib.Seq.{set_at, get_or_at, take_at, take-suc, length-take-le}
 use Rattle.cells.specs.declared.Name.{Name}
 use Rattle.cells.specs.declared.Spelling.{Spelling}

@@ -1,4 +1,10 @@
 -- A name in quotes: one byte more, and its length. Assumes nothing.
+use Rattle.std.specs.Prelude.{fold}
+use Rattle.std.proofs.lemmas.List.Sums.{fold_more}
+use native.Mathlib.Omega.{arith}
+use mathlib.Core.Path.{sym, ap}
+use Prim.Native.Nat.{◌≤◌}
+use lib.ListN.{take}
 use Prim.Native.Nat.{ℕ, zero, suc, ◌+◌, min}
 use mathlib.Core.Path.{◌≡◌, refl, ap, ◌∙◌}
 use mathlib.Core.Bool.{Bool, true, false, cond}
@@ -10,10 +16,12 @@ use Rattle.cells.specs.declared.Name.{Name}
 use Rattle.text.specs.declared.Quote.{Quote}
 use Rattle.text.specs.Named.{no_quote, with_ink, with_letter, letters_below, quoted_name}
 
--- one byte more of the name
-pub letters-turn : (start : Quote) (bytes : List ℕ) (place : ℕ) {quote next : Quote} → quote ≡ letters_below start bytes place → next ≡ with_letter quote (get_or bytes place 0) → next ≡ letters_below start bytes (place + 1)
+-- the first bytes of a name, as a fold
+pub letters_fold : (start : Quote) (bytes : List ℕ) (n : ℕ) → n ≤ length bytes → fold with_letter start (take n bytes) ≡ letters_below start bytes n
 unfolding letters_below
-letters-turn start bytes place p e = rw add-one (e ∙ ap (λ (q : Quote). with_letter q (get_or bytes place 0)) p)
+letters_fold start bytes zero fits = refl
+letters_fold start bytes (suc n) fits =
+    ap (λ k. fold with_letter start (take k bytes)) (sym (add-one n)) ∙ fold_more with_letter start bytes n 0 (omega arith) ∙ ap (λ quote. with_letter quote (get_or bytes n 0)) (letters_fold start bytes n (omega arith))
 
 -- the room stays
 long-ink : (quote : Quote) (byte : ℕ) → length (with_ink quote byte).bytes ≡ length quote.bytes

@@ -1,15 +1,14 @@
 -- Lines further down a text: a text in two parts that meet at a line's end, and the same lines under other numbers. Assumes nothing.
-use Prim.Native.Nat.{ℕ, zero, suc, ◌+◌, ◌≤◌, ◌<◌}
-use mathlib.Core.Path.{◌≡◌, refl, sym, ap, ◌∙◌, subst}
+use Prim.Native.Nat.{ℕ, ◌+◌, ◌≤◌}
+use mathlib.Core.Path.{◌≡◌, refl, ap, ◌∙◌}
 use mathlib.Core.Bool.{Bool, true, false, cond}
 use mathlib.Core.List.{List, [], ◌∷◌, ◌++◌}
 use native.Mathlib.Omega.{arith}
 use borrow.Author.Tests.{ne_eqb, ltb-false}
 use lib.Dec.{eqb, ltb}
 use Rattle.lines.specs.declared.Reading.{Reading}
-use Rattle.lines.specs.declared.Understood.{Understood}
 use Rattle.lines.specs.Troubles.{after}
-use Rattle.lines.specs.Answers.{line_taken, answer_at}
+use Rattle.lines.specs.Answers.{line_taken}
 use Rattle.lines.specs.Moved.{unlined_answer}
 use Rattle.lines.proofs.Moved.{Alike, taken-alike, answer-alike}
 use Rattle.text.specs.Lines.{with_first, lines_of, held_of, is_long, read_with, answer_of}

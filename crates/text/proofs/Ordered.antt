@@ -1,17 +1,16 @@
 -- Columns by name, in any order and with any separator: the header's layout, and a line of numbers under it. Assumes nothing.
 use Prim.Native.Nat.{ℕ, zero, suc, ◌+◌, ◌-◌, ◌*◌, ◌≤◌, ◌<◌}
-use mathlib.Core.Path.{◌≡◌, refl, sym, ap, ap₂, ◌∙◌, subst}
-use mathlib.Core.Bool.{Bool, true, false, cond, not, ◌&&◌, ◌||◌}
+use mathlib.Core.Path.{◌≡◌, refl, sym, ap, ◌∙◌}
+use mathlib.Core.Bool.{Bool, true, false, ◌&&◌, ◌||◌}
 use mathlib.Core.Logic.{◌⊎◌, inl, inr}
-use mathlib.Core.List.{List, [], ◌∷◌, ◌++◌}
-use native.Mathlib.Numerals.{add-one}
+use mathlib.Core.List.{List, [], ◌∷◌}
 use native.Mathlib.Decide.{dec_lt, ℕ_discrete}
 use native.Mathlib.Omega.{arith}
 use borrow.Author.Tests.{ne_eqb, eq-eqb, lt-leb, leb-true}
-use lib.Dec.{eqb, ltb, leb}
-use lib.ListN.{length, get_or, set, replicate, length-set, length-append}
-use lib.Seq.{get_or-set_same, get_or-set_other, ext_get_or}
-use Rattle.places.specs.Places.{joined_below, some_below}
+use lib.Dec.{eqb, leb}
+use lib.ListN.{length, get_or, set, length-set, length-append}
+use lib.Seq.{get_or-set_same, get_or-set_other}
+use Rattle.places.specs.Places.{some_below}
 use Rattle.places.proofs.Tells.{both_true}
 use Rattle.places.proofs.Onto.{Numbering, onto}
 use Rattle.places.proofs.Filled.{alike_at}
@@ -22,7 +21,6 @@ use Rattle.cells.proofs.Digits.{Digit, digit-above, digit-below}
 use Rattle.cells.specs.Cells.{separator_of}
 use Rattle.lines.specs.declared.Layout.{Layout}
 use Rattle.lines.specs.Columns.{named_layout, has_column, with_column, missing_column}
-use Rattle.lines.specs.Tasks.{field_at}
 use Rattle.lines.specs.Told.{layout_below}
 use Rattle.text.proofs.Spelt.{Digits, single, further}
 use Rattle.text.specs.Written.{Separator, tab, semicolon, comma, space, separated}

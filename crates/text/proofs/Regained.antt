@@ -1,44 +1,30 @@
 -- What `show` writes, read again: line after line, and the table of the figures. Assumes nothing.
-use Prim.Native.Nat.{ℕ, zero, suc, ◌+◌, ◌-◌, ◌*◌, ◌/◌, ◌%◌, ◌≤◌, ◌<◌, min, max}
-use mathlib.Core.Path.{◌≡◌, refl, sym, ap, ap₂, ◌∙◌, subst}
-use mathlib.Core.Bool.{Bool, true, false, cond, not, ◌&&◌, ◌||◌}
-use mathlib.Core.Logic.{◌⊎◌, inl, inr}
-use mathlib.Core.List.{List, [], ◌∷◌, ◌++◌, append_assoc, append-nil}
-use native.Mathlib.Numerals.{add-one}
-use native.Mathlib.Decide.{dec_lt}
+use Prim.Native.Nat.{ℕ, ◌≤◌}
+use mathlib.Core.Path.{◌≡◌, refl, ap, ap₂, ◌∙◌, subst}
+use mathlib.Core.Bool.{Bool, true, false, cond, not, ◌&&◌}
+use mathlib.Core.Logic.{inl, inr}
+use mathlib.Core.List.{List, [], ◌∷◌, ◌++◌, append_assoc}
 use native.Mathlib.Omega.{arith}
-use borrow.Author.Tests.{ne_eqb, eq-eqb, le-ltb, lt-leb, lt-ltb, not-true, eqb-true}
-use lib.Dec.{eqb, ltb, leb}
-use lib.ListN.{length, get_or, take, drop, set, replicate, length-set, length-append}
-use lib.Seq.{take_all, get_or-set_same, get_or-set_other}
-use Rattle.places.specs.Places.{joined_below, filled_below}
+use borrow.Author.Tests.{le-ltb, not-true}
+use lib.Dec.{eqb, ltb}
+use lib.ListN.{length, get_or, take}
+use lib.Seq.{take_all}
+use Rattle.places.specs.Places.{joined_below}
 use Rattle.places.proofs.Tells.{both_true}
-use Rattle.cells.specs.Kinds.{loose}
 use Rattle.cells.specs.Cells.{part_of, turned}
 use Rattle.cells.specs.Raw.{raw_cells, is_none, after_blanks, before_blanks, trimmed, trimmed_all, kept, cells_in}
 use Rattle.cells.proofs.Words.{All, none, one}
-use Rattle.lines.specs.declared.Settings.{Settings}
-use Rattle.lines.specs.declared.Layout.{Layout}
-use Rattle.lines.specs.declared.Task.{Task}
 use Rattle.lines.specs.declared.Reading.{Reading}
-use Rattle.lines.specs.declared.Understood.{Understood}
-use Rattle.lines.specs.Troubles.{after, no_reading, no_trouble, task_at, with_task, with_layout, with_settings, is_refused}
-use Rattle.lines.specs.Settings.{is_given, with_setting, is_open}
-use Rattle.lines.specs.Columns.{plain_layout, has_column}
-use Rattle.lines.specs.Tasks.{field_at, numbered, with_fault, with_deadline, filled_task, with_read}
-use Rattle.lines.specs.Lines.{line_read, task_read}
-use Rattle.lines.specs.Told.{Good, told, told_below}
-use Rattle.lines.specs.Answers.{has_mark, unmarked, content_taken, line_taken, setting_at, figures_of, ended_at, answered, answer_at}
-use Rattle.lines.proofs.Told.{task-line}
-use Rattle.lines.proofs.Early.{Number-is, nothing_read, lone-read, pair_read_lem, plain-read, later-read}
-use Rattle.report.specs.Words.{newline}
-use Rattle.report.specs.Decimal.{decimal}
+use Rattle.lines.specs.Troubles.{after, is_refused}
+use Rattle.lines.specs.Lines.{line_read}
+use Rattle.lines.specs.Answers.{has_mark, unmarked, content_taken, line_taken}
+use Rattle.lines.proofs.Early.{nothing_read}
 use Rattle.text.specs.Lines.{with_first, lines_of, said, held_of, is_long, read_with, answer_of}
-use Rattle.text.specs.Shown.{interval_names, share_names, task_names, cell_text, row_text, task_numbers}
+use Rattle.text.specs.Shown.{cell_text, row_text}
 use Rattle.text.proofs.Lines.{Some, some, lines-some}
 use Rattle.text.proofs.Aligned.{columns-most}
-use Rattle.text.proofs.Long.{Narrow, length-cells, two-narrow, task-narrow}
-use Rattle.text.proofs.Spelt.{words_below, loosely, blankly, row-cells, row-without, row-separator, row-alike, decimal-number, decimal-is, decimal-setting, decimal-good}
+use Rattle.text.proofs.Long.{Narrow, length-cells}
+use Rattle.text.proofs.Spelt.{row-without}
 
 -- a byte that no byte of a list is
 unfoldable pub without : ℕ → List ℕ → Bool

@@ -1,12 +1,12 @@
 -- The text of a table with its tasks' names, read: the table's numbers and the names. Assumes nothing.
-use Prim.Native.Nat.{ℕ, zero, suc, ◌+◌, ◌-◌, ◌*◌, ◌≤◌, ◌<◌, min}
-use mathlib.Core.Path.{◌≡◌, refl, sym, ap, ap₂, ◌∙◌, subst}
-use mathlib.Core.Bool.{Bool, true, false, cond, not, ◌&&◌, ◌||◌}
-use mathlib.Core.Logic.{◌⊎◌, inl, inr}
+use Prim.Native.Nat.{ℕ, zero, suc, ◌-◌, ◌≤◌, ◌<◌}
+use mathlib.Core.Path.{◌≡◌, refl, sym, ap, ◌∙◌, subst}
+use mathlib.Core.Bool.{true, false}
+use mathlib.Core.Logic.{inl}
 use mathlib.Core.List.{List, [], ◌∷◌, ◌++◌, append_assoc}
 use native.Mathlib.Omega.{arith}
 use borrow.Author.Tests.{ne_eqb}
-use lib.Dec.{eqb, ltb, leb}
+use lib.Dec.{eqb}
 use lib.ListN.{length, get_or, take, drop, set, replicate, length-append}
 use Rattle.places.specs.Places.{joined_below}
 use Rattle.cells.specs.declared.Name.{Name}
@@ -14,10 +14,10 @@ use Rattle.cells.specs.declared.Named.{Named}
 use Rattle.cells.specs.Kinds.{is_blank, is_loose, separates, runs, is_digit, loose, lower, is_gap, opens, closes}
 use Rattle.cells.specs.Cells.{turned, cells_of, has_outside, separator_of}
 use Rattle.cells.specs.Numbers.{is_quoted, quotes_refusal, content_of}
-use Rattle.cells.specs.Names.{same, unknown_label, with_stage, with_letter, with_byte, label_from, label_of, is_word, is_named, column_named, column_of, name_of}
+use Rattle.cells.specs.Names.{same, unknown_label, with_stage, with_letter, with_byte, label_from, label_of, is_word, is_named, column_named, column_of}
 use Rattle.cells.specs.Raw.{with_first, raw_cells, is_none, after_blanks, before_blanks, trimmed, trimmed_all, kept, cells_in}
 use Rattle.cells.proofs.Found.{split-counted}
-use Rattle.cells.proofs.Words.{All, none, one, all-joined, all-wider, all_alike, cells-run}
+use Rattle.cells.proofs.Words.{All, one, all-joined, all-wider, all_alike, cells-run}
 use Rattle.sheet.specs.declared.Record.{Record}
 use Rattle.sheet.specs.declared.Table.{Table}
 use Rattle.sheet.specs.Layout.{record_at}

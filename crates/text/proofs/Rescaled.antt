@@ -1,22 +1,20 @@
 -- Figures that have a table's numbers, at a scale of 1: the table again. Assumes nothing.
-use Prim.Native.Nat.{ℕ, zero, suc, ◌+◌, ◌*◌, ◌/◌, ◌%◌, ◌≤◌, ◌<◌, min, max}
-use mathlib.Core.Path.{◌≡◌, refl, sym, ap, ap₂, ◌∙◌, subst}
-use mathlib.Core.Bool.{Bool, true, false, cond, not, ◌&&◌, ◌||◌}
-use mathlib.Core.List.{List, [], ◌∷◌}
+use Prim.Native.Nat.{ℕ, zero, suc, ◌/◌, ◌≤◌, ◌<◌, min}
+use mathlib.Core.Path.{◌≡◌, refl, ap, ap₂, ◌∙◌}
+use mathlib.Core.Bool.{Bool, true, false, cond}
+use mathlib.Core.List.{List}
 use native.Mathlib.Nat.{div-one, mod-one}
 use native.Mathlib.Omega.{arith}
-use borrow.Author.Tests.{ne_eqb, eq-eqb, le-ltb}
-use lib.Dec.{eqb, ltb}
-use lib.ListN.{length, get_or, set, replicate}
+use borrow.Author.Tests.{le-ltb}
+use lib.ListN.{get_or, set}
 use Rattle.places.specs.Places.{filled_below}
 use Rattle.sheet.specs.declared.Record.{Record}
 use Rattle.sheet.specs.declared.Table.{Table}
-use Rattle.sheet.specs.Layout.{no_record, record_at, room, cleared, is_whole}
+use Rattle.sheet.specs.Layout.{record_at, room, cleared, is_whole}
 use Rattle.sheet.specs.Rules.{table_refusal}
 use Rattle.sheet.proofs.Spelled.{Sized}
 use Rattle.lines.specs.declared.Task.{Task}
 use Rattle.lines.specs.declared.Figures.{Figures}
-use Rattle.text.specs.declared.Fitted.{Fitted}
 use Rattle.text.specs.Scaling.{up, least_up, least_down, number_at, least_of, is_high, task_of, least_first, least_below, high_below, least_scale, scaled_task, records_below, share_scale, scaled_table, divides, judged, scaled_fit, scaled_by}
 use Rattle.text.specs.Shown.{task_numbers}
 use Rattle.text.proofs.Scales.{least-up-is, least-down-is}

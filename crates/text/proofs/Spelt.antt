@@ -1,18 +1,18 @@
 -- Rows of numbers, as a table's text has them, cut into their cells again. Assumes nothing.
 use Prim.Native.Nat.{ℕ, zero, suc, ◌+◌, ◌-◌, ◌*◌, ◌/◌, ◌%◌, ◌≤◌, ◌<◌}
-use mathlib.Core.Path.{◌≡◌, refl, sym, ap, ap₂, ◌∙◌, subst}
-use mathlib.Core.Bool.{Bool, true, false, cond, not, ◌&&◌, ◌||◌}
+use mathlib.Core.Path.{◌≡◌, refl, sym, ap, ◌∙◌}
+use mathlib.Core.Bool.{true, false}
 use mathlib.Core.Logic.{◌⊎◌, inl, inr}
-use mathlib.Core.List.{List, [], ◌∷◌, ◌++◌, append_assoc, append-nil}
+use mathlib.Core.List.{List, [], ◌∷◌, ◌++◌, append_assoc}
 use native.Mathlib.Nat.{mod-lt, div-add-mod'}
 use native.Mathlib.Omega.{arith}
 use borrow.Author.Tests.{ne_eqb, le-ltb}
-use lib.Dec.{eqb, ltb}
-use lib.ListN.{length, get_or, take, replicate}
+use lib.Dec.{eqb}
+use lib.ListN.{length, get_or, replicate}
 use Rattle.places.specs.Places.{joined_below}
 use Rattle.cells.specs.declared.Number.{Number}
-use Rattle.cells.specs.Kinds.{is_blank, is_loose, separates, runs, is_digit}
-use Rattle.cells.specs.Cells.{empty_at, no_cells, cells_of, has_outside, separator_of}
+use Rattle.cells.specs.Kinds.{is_blank, is_loose, separates, runs}
+use Rattle.cells.specs.Cells.{empty_at, no_cells, cells_of, separator_of}
 use Rattle.cells.specs.Numbers.{are_digits, digit_of, no_number, with_digit, value_from, number_of}
 use Rattle.cells.specs.Names.{setting_of}
 use Rattle.cells.specs.Raw.{is_none, cells_in}

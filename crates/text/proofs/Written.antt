@@ -1,20 +1,20 @@
 -- A table's text with any separator and its columns in any order, read: the same table. Assumes nothing.
-use Prim.Native.Nat.{ℕ, zero, suc, ◌+◌, ◌-◌, ◌*◌, ◌≤◌, ◌<◌}
+use Prim.Native.Nat.{ℕ, zero, suc, ◌+◌, ◌-◌, ◌≤◌, ◌<◌}
 use mathlib.Core.Path.{◌≡◌, refl, sym, ap, ap₂, ◌∙◌, subst}
-use mathlib.Core.Bool.{Bool, true, false, cond, not, ◌&&◌, ◌||◌}
-use mathlib.Core.Logic.{◌⊎◌, inl, inr}
+use mathlib.Core.Bool.{true, false}
+use mathlib.Core.Logic.{inl, inr}
 use mathlib.Core.List.{List, [], ◌∷◌, ◌++◌}
-use native.Mathlib.Decide.{dec_lt, ℕ_discrete}
+use native.Mathlib.Decide.{ℕ_discrete}
 use native.Mathlib.Omega.{arith}
-use borrow.Author.Tests.{ne_eqb, eq-eqb, le-ltb}
-use lib.Dec.{eqb, ltb, leb}
-use lib.ListN.{length, get_or, take, drop, set, replicate, length-set}
+use borrow.Author.Tests.{ne_eqb, le-ltb}
+use lib.Dec.{eqb}
+use lib.ListN.{length, get_or, drop, set, length-set}
 use lib.Seq.{get_or-set_same, get_or-set_other, ext_get_or}
 use Rattle.places.specs.Places.{joined_below}
 use Rattle.places.proofs.Onto.{Numbering, onto}
 use Rattle.cells.specs.Kinds.{is_blank, is_digit, loose, lower, is_gap, opens, closes}
 use Rattle.cells.specs.Cells.{separator_of}
-use Rattle.cells.specs.Numbers.{is_quoted, quotes_refusal, content_of, number_of}
+use Rattle.cells.specs.Numbers.{is_quoted, quotes_refusal, content_of}
 use Rattle.cells.specs.Names.{same, unknown_label, with_stage, with_letter, with_byte, label_from, label_of, is_word, is_named, column_named, column_of}
 use Rattle.cells.specs.Raw.{is_none, cells_in}
 use Rattle.sheet.specs.declared.Record.{Record}
@@ -29,7 +29,7 @@ use Rattle.lines.specs.Troubles.{after, no_reading, task_at, with_task, with_lay
 use Rattle.lines.specs.Settings.{is_given}
 use Rattle.lines.specs.Columns.{named_layout, has_column, with_column, missing_column}
 use Rattle.lines.specs.Tasks.{field_at, numbered, with_read}
-use Rattle.lines.specs.Lines.{header_read, line_read, task_read}
+use Rattle.lines.specs.Lines.{header_read, line_read}
 use Rattle.lines.specs.Told.{Good, told, told_below, layout_below}
 use Rattle.lines.proofs.Told.{Heads, header-line, task-line}
 use Rattle.lines.proofs.Early.{header_read_lem, later-read}

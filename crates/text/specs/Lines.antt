@@ -1,5 +1,5 @@
 -- A text as its lines: "`#` outside quotes begins a comment to the line's end", and each line is read for itself.
-use Rattle.std.specs.Prelude.{ℕ, Bool, true, false, cond, not, ◌&&◌, ◌||◌, List, [], ◌∷◌, eqb, ltb, length, take}
+use Rattle.std.specs.Prelude.{ℕ, Bool, false, cond, not, ◌&&◌, List, [], ◌∷◌, eqb, ltb, length, take}
 use Rattle.cells.specs.Cells.{turned}
 use Rattle.lines.specs.declared.Reading.{Reading}
 use Rattle.lines.specs.declared.Understood.{Understood}

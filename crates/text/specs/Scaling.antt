@@ -1,5 +1,5 @@
 -- Figures of any size as a table's: "each cost and backup divided by K and rounded up, each deadline, period, interval rounded down".
-use Rattle.std.specs.Prelude.{ℕ, zero, suc, ◌+◌, ◌/◌, ◌%◌, min, max, Bool, true, false, cond, not, ◌&&◌, ◌||◌, List, [], eqb, ltb, get_or, set, replicate}
+use Rattle.std.specs.Prelude.{ℕ, zero, suc, ◌+◌, ◌/◌, ◌%◌, min, max, Bool, false, cond, ◌&&◌, ◌||◌, List, [], eqb, ltb, get_or, set, replicate}
 use Rattle.sheet.specs.declared.Record.{Record}
 use Rattle.sheet.specs.declared.Table.{Table}
 use Rattle.sheet.specs.Layout.{is_whole, no_record, no_table}

@@ -1,5 +1,4 @@
 -- Figures of any size as the tasks that the equations read, before any scale: a text that fits no table has them all the same.
-use Rattle.std.specs.Prelude.{ℕ}
 use Rattle.sheet.specs.declared.Record.{Record}
 use Rattle.sheet.specs.declared.Table.{Table}
 use Rattle.lines.specs.declared.Task.{Task}

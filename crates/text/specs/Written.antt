@@ -1,5 +1,5 @@
 -- A table's text as a planner may write it: with any separator, under column names in any order.
-use Rattle.std.specs.Prelude.{ℕ, ◌+◌, List, [], ◌∷◌, ◌++◌, get_or}
+use Rattle.std.specs.Prelude.{ℕ, List, [], ◌∷◌, ◌++◌, get_or}
 use Rattle.places.specs.Places.{joined_below}
 use Rattle.cells.specs.Names.{priority_name, fault_name, cost_name, backup_name, deadline_name, period_name}
 use Rattle.sheet.specs.declared.Record.{Record}

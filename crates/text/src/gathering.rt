@@ -1,8 +1,6 @@
 // A text gathered line by line, and what it is understood as at its end.
 ghost use Rattle.std.specs.Prelude.{◌≡◌};
-ghost use Rattle.cells.specs.Cells.{turned};
-ghost use Rattle.text.specs.Texts.{held_line, reading_of, line_ended, commented, holding, gathered, step};
-ghost use Rattle.lines.specs.Answers.{answer_at};
+ghost use Rattle.text.specs.Texts.{reading_of, line_ended, commented, holding, gathered, step};
 ghost use Rattle.text.specs.Answers.{understood};
 
 use crate::Scan;
@@ -12,21 +10,14 @@ use lines::{Reading, Understood};
 fn reading_of(scan: Scan) -> Reading
     ensures { result ≡ reading_of scan }
 {
-    let reading = scan.reading;
-    let bytes = scan.bytes;
-    lines::read_line(
-        reading,
-        scan.line,
-        cells::part(&bytes, 0, scan.held),
-        scan.over,
-    )
+    let held = cells::part(&scan.bytes, 0, scan.held);
+    lines::read_line(scan.reading, scan.line, held, scan.over)
 }
 
 // The next line.
 fn line_ended(scan: Scan) -> Scan
     ensures { result ≡ line_ended scan }
 {
-    let bytes = scan.bytes;
     Scan {
         reading: reading_of(scan),
         line: lines::after(scan.line),
@@ -34,7 +25,7 @@ fn line_ended(scan: Scan) -> Scan
         quoted: false,
         comment: false,
         over: false,
-        bytes,
+        ..scan
     }
 }
 
@@ -42,9 +33,10 @@ fn line_ended(scan: Scan) -> Scan
 fn commented(scan: Scan) -> Scan
     ensures { result ≡ commented scan }
 {
-    let mut next = scan;
-    next.comment = true;
-    next
+    Scan {
+        comment: true,
+        ..scan
+    }
 }
 
 // One byte more of the line.
@@ -57,19 +49,10 @@ fn holding(scan: Scan, byte: u8) -> Scan
         next.over = true;
         return next;
     }
-    let mut bytes = scan.bytes;
-    bytes[held] = byte;
-    next.bytes = bytes;
+    next.bytes[held] = byte;
     next.held = held + 1;
-    next.quoted = turned(scan.quoted, byte);
+    next.quoted ^= byte == b'"';
     next
-}
-
-// Whether a double quote is open after a byte.
-fn turned(quoted: bool, byte: u8) -> bool
-    ensures { result ≡ turned quoted byte }
-{
-    if byte == b'"' { !quoted } else { quoted }
 }
 
 // A byte of a line.
@@ -95,17 +78,10 @@ pub fn step(scan: Scan, byte: u8) -> Scan
     gathered(scan, byte)
 }
 
-// What a text is understood as that ends after a line of which so many bytes are held.
-fn answer(reading: Reading, number: u64, bytes: [u8; 512], held: usize) -> Understood
-    ensures { result ≡ answer_at reading number (held_line bytes held) }
-{
-    lines::answer(reading, number, cells::part(&bytes, 0, held))
-}
-
 // What a text that ends here is understood as.
 pub fn understood(scan: Scan) -> Understood
     ensures { result ≡ understood scan }
 {
-    let bytes = scan.bytes;
-    answer(reading_of(scan), scan.line, bytes, scan.held)
+    let held = cells::part(&scan.bytes, 0, scan.held);
+    lines::answer(reading_of(scan), scan.line, held)
 }

@@ -10,6 +10,7 @@ ghost use Rattle.text.specs.Scaling.{unjudged_by, scaled_by};
 
 use cells::Name;
 use lines::{Figures, Reading, Understood};
+use places::refusal;
 use sheet::Table;
 
 mod gathering;
@@ -73,10 +74,8 @@ impl Scan {
         ensures { result ≡ scanned self part.now }
     {
         let mut scan = self;
-        let mut at: usize = 0;
-        while at < part.len() {
-            scan = gathering::step(scan, part[at]);
-            at += 1;
+        for &byte in part {
+            scan = gathering::step(scan, byte);
         }
         scan
     }
@@ -117,7 +116,7 @@ pub fn unjudged(figures: Figures, scale: u64) -> Table
 pub fn show(table: Table, out: &mut [u8]) -> Shown
     ensures { (result ≡ show_answer table out.old) × (out.new ≡ show_leaves table out.old) }
 {
-    let broken = sheet::judge_table(table);
+    let broken = refusal::told(sheet::judge_table(table));
     if broken != 0 {
         return Shown {
             refusal: broken,
@@ -139,7 +138,7 @@ pub fn show(table: Table, out: &mut [u8]) -> Shown
 pub fn show_named(table: Table, names: [Name; 8], out: &mut [u8]) -> Shown
     ensures { (result ≡ named_answer table out.old) × (out.new ≡ named_leaves table names out.old) }
 {
-    let broken = sheet::judge_table(table);
+    let broken = refusal::told(sheet::judge_table(table));
     if broken != 0 {
         return Shown {
             refusal: broken,

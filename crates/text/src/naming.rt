@@ -1,5 +1,5 @@
 // A task's name in quotes, and a table's text with its tasks' names put into an output.
-ghost use Rattle.std.specs.Prelude.{◌≡◌, ◌+◌, ◌*◌, ◌≤◌, min, length};
+ghost use Rattle.std.specs.Prelude.{◌≡◌, ◌+◌, ◌*◌, ◌≤◌, length};
 ghost use Rattle.places.specs.Places.{joined_below};
 ghost use Rattle.sheet.specs.Layout.{edition_for};
 ghost use Rattle.text.specs.Named.{with_ink, with_letter, quoted_name, named_row, named_line, named_text, named_size};
@@ -29,9 +29,10 @@ fn with_ink(quote: Quote, byte: u8) -> Quote
     if 66 <= at {
         return quote;
     }
-    let mut bytes = quote.bytes;
-    bytes[at] = byte;
-    Quote { at: at + 1, bytes }
+    let mut longer = quote;
+    longer.bytes[at] = byte;
+    longer.at = at + 1;
+    longer
 }
 
 // One byte more of the name.
@@ -44,31 +45,20 @@ fn with_letter(quote: Quote, byte: u8) -> Quote
     with_ink(quote, byte)
 }
 
-// The lesser of two lengths.
-fn least(a: usize, b: usize) -> usize
-    ensures value { result ≡ min a b }
-    ensures under { result ≤ b }
-{
-    if a < b { a } else { b }
-}
-
 // A name in quotes, blanks after it.
 fn quoted(name: Name) -> Quote
     ensures { result ≡ quoted_name name }
 {
-    let bytes = name.bytes;
-    let count = least(name.length as usize, 32);
+    let count = (name.length as usize).min(32);
     let room = Quote {
         at: 0,
         bytes: [b' '; 66],
     };
-    let mut quote = with_ink(room, b'"');
-    let mut place: usize = 0;
-    while place < count {
-        quote = with_letter(quote, bytes[place]);
-        place += 1;
-    }
-    with_ink(quote, b'"')
+    let open = with_ink(room, b'"');
+    let letters = name.bytes[..count]
+        .iter()
+        .fold(open, |quote, byte| with_letter(quote, *byte));
+    with_ink(letters, b'"')
 }
 
 // Puts a task's line, and says where it ends.
@@ -76,22 +66,18 @@ fn put_row(out: &mut [u8], at: usize, name: Name, task: Record) -> usize
     requires { at + 117 ≤ length out.old }
     ensures { (result ≡ at + 117) × Put out.old at (named_row name task) 117 out.new }
 {
-    let quote = quoted(name);
-    let bytes = quote.bytes;
-    page::put(out, at, &bytes);
+    page::put(out, at, &quoted(name).bytes);
     page::put_row(out, at + 66, page::task_numbers(task), 6)
 }
 
-// Puts the lines of the tasks.
+// Puts the lines of the tasks. Without names it is another loop (`page::put_tasks`).
 fn put_tasks(out: &mut [u8], at: usize, records: [Record; 8], names: [Name; 8], count: u8)
     requires { (count ≤ 8) × (at + 117 * count ≤ length out.old) }
     ensures { Put out.old at (joined_below (named_line records names) count) (117 * count) out.new }
 {
     let mut end = at;
-    let mut place: usize = 0;
-    while place < count as usize {
+    for place in 0..count as usize {
         end = put_row(out, end, names[place], records[place]);
-        place += 1;
     }
 }
 
@@ -100,14 +86,10 @@ pub fn put_table(out: &mut [u8], table: Table, names: [Name; 8])
     requires { (1 ≤ table.count) × (table.count ≤ 8) × (named_size table ≤ length out.old) }
     ensures { Put out.old 0 (named_text table names) (named_size table) out.new }
 {
-    let records = table.records;
-    page::put(out, 0, b"# interval\n");
-    let end = page::put_row(out, 11, [table.interval, 0, 0, 0, 0, 0], 1);
-    let end = page::put_share(out, end, table.round, table.share);
-    page::put(
+    let end = page::put_head(
         out,
-        end,
+        table,
         b"task                                                                priority  fault   cost  backup  deadline  period\n",
     );
-    put_tasks(out, end + 117, records, names, table.count);
+    put_tasks(out, end, table.records, names, table.count);
 }

@@ -1,9 +1,9 @@
 // A table's text put into an output: names, numbers in columns, lines.
-ghost use Rattle.std.specs.Prelude.{◌≡◌, ◌+◌, ◌*◌, ◌≤◌, ◌<◌, length, get_or};
+ghost use Rattle.std.specs.Prelude.{◌≡◌, ◌+◌, ◌*◌, ◌≤◌, ◌<◌, ◌++◌, length, get_or};
 ghost use Rattle.places.specs.Places.{joined_below};
-ghost use Rattle.sheet.specs.Layout.{edition_for};
+ghost use Rattle.sheet.specs.Layout.{edition_for, table_edition};
 ghost use Rattle.report.specs.Decimal.{decimal};
-ghost use Rattle.text.specs.Shown.{widths, column_at, padded, row_text, task_numbers, share_text, task_text, shown_text, text_size};
+ghost use Rattle.text.specs.Shown.{widths, column_at, padded, row_text, task_numbers, interval_text, share_text, task_text, shown_text, text_size};
 ghost use Rattle.text.specs.Putting.{Put};
 
 use sheet::{Record, Table};
@@ -28,14 +28,10 @@ pub fn put(out: &mut [u8], at: usize, bytes: &[u8])
     requires { at + length bytes.now ≤ length out.old }
     ensures { Put out.old at bytes.now (length bytes.now) out.new }
 {
-    let mut place: usize = 0;
-    while place < bytes.len() {
-        out[at + place] = bytes[place];
-        place += 1;
-    }
+    out[at..at + bytes.len()].copy_from_slice(bytes);
 }
 
-// A number at the right end of ten bytes.
+// A number at the right end of ten bytes. How many digits it has is known only once none is left, so no range counts the places.
 fn cell(number: u16) -> [u8; 10]
     ensures { (result ≡ padded 10 number) × (length (decimal number) ≤ 5) }
 {
@@ -57,9 +53,7 @@ fn put_number(out: &mut [u8], at: usize, number: u16, column: usize) -> usize
     ensures { (result ≡ at + get_or widths column 0) × Put out.old at (padded (get_or widths column 0) number) (get_or widths column 0) out.new }
 {
     let width = WIDTHS[column];
-    let bytes = cell(number);
-    let start = 10 - width;
-    put(out, at, &bytes[start..]);
+    put(out, at, &cell(number)[10 - width..]);
     at + width
 }
 
@@ -69,10 +63,8 @@ pub fn put_row(out: &mut [u8], at: usize, numbers: [u16; 6], count: usize) -> us
     ensures { (result ≡ at + (column_at count + 1)) × Put out.old at (row_text numbers count) (column_at count + 1) out.new }
 {
     let mut end = at;
-    let mut place: usize = 0;
-    while place < count {
+    for place in 0..count {
         end = put_number(out, end, numbers[place], place);
-        place += 1;
     }
     put(out, end, b"\n");
     end + 1
@@ -104,16 +96,26 @@ pub fn task_numbers(task: Record) -> [u16; 6]
     ]
 }
 
-// Puts the lines of the tasks.
+// Puts what stands above the lines of the tasks, the names of their columns last, and says where it ends.
+pub fn put_head(out: &mut [u8], table: Table, names: &[u8]) -> usize
+    requires { (91 ≤ length out.old) × (22 + 36 * table_edition table + length names.now ≤ length out.old) }
+    ensures { (result ≡ 22 + 36 * table_edition table + length names.now) × Put out.old 0 (interval_text table.interval ++ share_text table.round table.share ++ names.now) (22 + 36 * table_edition table + length names.now) out.new }
+{
+    put(out, 0, b"# interval\n");
+    let end = put_row(out, 11, [table.interval, 0, 0, 0, 0, 0], 1);
+    let end = put_share(out, end, table.round, table.share);
+    put(out, end, names);
+    end + names.len()
+}
+
+// Puts the lines of the tasks. With names it is another loop: a trait over both kinds of line would be longer than the two.
 fn put_tasks(out: &mut [u8], at: usize, records: [Record; 8], count: u8)
     requires { (count ≤ 8) × (at + 51 * count ≤ length out.old) }
     ensures { Put out.old at (joined_below (task_text records) count) (51 * count) out.new }
 {
     let mut end = at;
-    let mut place: usize = 0;
-    while place < count as usize {
+    for place in 0..count as usize {
         end = put_row(out, end, task_numbers(records[place]), 6);
-        place += 1;
     }
 }
 
@@ -122,14 +124,10 @@ pub fn put_table(out: &mut [u8], table: Table)
     requires { (1 ≤ table.count) × (table.count ≤ 8) × (text_size table ≤ length out.old) }
     ensures { Put out.old 0 (shown_text table) (text_size table) out.new }
 {
-    let records = table.records;
-    put(out, 0, b"# interval\n");
-    let end = put_row(out, 11, [table.interval, 0, 0, 0, 0, 0], 1);
-    let end = put_share(out, end, table.round, table.share);
-    put(
+    let end = put_head(
         out,
-        end,
+        table,
         b"# priority  fault   cost  backup  deadline  period\n",
     );
-    put_tasks(out, end + 51, records, table.count);
+    put_tasks(out, end, table.records, table.count);
 }

@@ -1,37 +1,19 @@
 // Figures of any size as a table's.
-ghost use Rattle.std.specs.Prelude.{◌≡◌, ◌<◌, ◌≤◌, ◌/◌, min, max};
+ghost use Rattle.std.specs.Prelude.{◌≡◌, ◌<◌, ◌≤◌, min};
 ghost use Rattle.sheet.specs.Layout.{no_record, no_table};
 ghost use Rattle.text.specs.Scaling.{up, least_up, least_down, least_of, is_high, least_first, least_below, high_below, least_scale, scaled_task, records_below, share_scale, scaled_table, divides, not_scaled, judged, scaled_fit, scaled_by};
 
 use crate::Fitted;
 use lines::{Figures, Task};
+use places::refusal;
 use sheet::{Record, Table};
-
-// The lesser of two lengths.
-fn least(a: usize, b: usize) -> usize
-    ensures value { result ≡ min a b }
-    ensures under { result ≤ b }
-    ensures within { result ≤ a }
-{
-    if a < b { a } else { b }
-}
-
-// The greater of two scales.
-fn most(a: u64, b: u64) -> u64
-    ensures { result ≡ max a b }
-{
-    if a < b { b } else { a }
-}
 
 // A number divided and rounded up.
 fn up(number: u64, scale: u64) -> u64
     requires { 0 < scale }
     ensures { result ≡ up number scale }
 {
-    if number % scale == 0 {
-        return number / scale;
-    }
-    number / scale + 1
+    number.div_ceil(scale)
 }
 
 // The least scale at which a number that is rounded up fits sixteen bits.
@@ -53,9 +35,9 @@ fn least_of(task: Task) -> u64
     ensures { result ≡ least_of task }
 {
     let numbers = task.numbers;
-    let costs = most(least_up(numbers[2]), least_up(numbers[3]));
-    let times = most(least_down(numbers[4]), least_down(numbers[5]));
-    most(costs, times)
+    let costs = least_up(numbers[2]).max(least_up(numbers[3]));
+    let times = least_down(numbers[4]).max(least_down(numbers[5]));
+    costs.max(times)
 }
 
 // Whether a priority is above four bits.
@@ -70,8 +52,8 @@ fn is_high(task: Task) -> bool
 fn least_first(figures: Figures) -> u64
     ensures { result ≡ least_first figures }
 {
-    let shared = most(least_up(figures.round), least_up(figures.share));
-    most(least_down(figures.interval), shared)
+    let shared = least_up(figures.round).max(least_up(figures.share));
+    least_down(figures.interval).max(shared)
 }
 
 // A least scale with those of the first tasks.
@@ -79,13 +61,9 @@ fn least_below(first: u64, tasks: [Task; 8], count: usize) -> u64
     requires { count ≤ 8 }
     ensures { result ≡ least_below first tasks count }
 {
-    let mut least = first;
-    let mut place: usize = 0;
-    while place < count {
-        least = most(least, least_of(tasks[place]));
-        place += 1;
-    }
-    least
+    tasks[..count]
+        .iter()
+        .fold(first, |least, task| least.max(least_of(*task)))
 }
 
 // Whether some priority is above four bits.
@@ -93,20 +71,14 @@ fn high_below(tasks: [Task; 8], count: usize) -> bool
     requires { count ≤ 8 }
     ensures { result ≡ high_below tasks count }
 {
-    let mut high = false;
-    let mut place: usize = 0;
-    while place < count {
-        high = high | is_high(tasks[place]);
-        place += 1;
-    }
-    high
+    tasks[..count].iter().any(|task| is_high(*task))
 }
 
 // The least scale that makes all fit, or 0.
 fn least_scale(figures: Figures) -> u64
     ensures { result ≡ least_scale figures }
 {
-    let count = least(figures.count as usize, 8);
+    let count = (figures.count as usize).min(8);
     let tasks = figures.tasks;
     if high_below(tasks, count) {
         return 0;
@@ -118,14 +90,14 @@ fn least_scale(figures: Figures) -> u64
 fn narrow(number: u64) -> u16
     ensures { result ≡ min number 65535 }
 {
-    if number < 65535 { number as u16 } else { 65535 }
+    number.min(65535) as u16
 }
 
 // A number in four bits.
 fn four_bits(number: u64) -> u8
     ensures { result ≡ min number 15 }
 {
-    if number < 15 { number as u8 } else { 15 }
+    number.min(15) as u8
 }
 
 // A task's record at a scale.
@@ -165,10 +137,8 @@ fn records_below(tasks: [Task; 8], scale: u64, count: usize) -> [Record; 8]
     ensures { result ≡ records_below tasks scale count }
 {
     let mut records = [no_record(); 8];
-    let mut place: usize = 0;
-    while place < count {
+    for place in 0..count {
         records[place] = scaled_task(tasks[place], scale);
-        place += 1;
     }
     records
 }
@@ -190,7 +160,7 @@ pub fn scaled_table(figures: Figures, scale: u64) -> Table
     requires { 0 < scale }
     ensures { result ≡ scaled_table figures scale }
 {
-    let count = least(figures.count as usize, 8);
+    let count = (figures.count as usize).min(8);
     let tasks = figures.tasks;
     let shared = share_scale(figures, scale);
     Table {
@@ -230,7 +200,7 @@ fn not_scaled(refusal: u8, least: u64) -> Fitted
 fn judged(table: Table) -> Fitted
     ensures { result ≡ judged table }
 {
-    let refusal = sheet::judge_table(table);
+    let refusal = refusal::told(sheet::judge_table(table));
     if refusal != 0 {
         return not_scaled(refusal, 0);
     }

@@ -3,8 +3,7 @@ use sheet::{Record, Table};
 
 // The number after another in a row that looks random.
 fn next(number: u32) -> u32 {
-    let long = number as u64 * 48271 % 2147483647;
-    if long < 4294967296 { long as u32 } else { 1 }
+    (u64::from(number) * 48271 % 2147483647) as u32
 }
 
 // The figure of a table that has a place among its figures.
@@ -14,17 +13,12 @@ fn drawn(number: u32, place: u32) -> u32 {
 
 // A figure from 1 to the most.
 fn up_to(most: u16, figure: u32) -> u16 {
-    if most == 0 {
-        return 1;
-    }
-    let rest = figure % most as u32;
-    if rest < 65535 { rest as u16 + 1 } else { 1 }
+    (figure % u32::from(most.max(1))) as u16 + 1
 }
 
-// The same for a number of four bits.
+// The same for a number of eight bits. Both are a line, and one over every type would need two bounds and a cast that can fail.
 fn small_up_to(most: u8, figure: u32) -> u8 {
-    let small = up_to(most as u16, figure);
-    if small < 16 { small as u8 } else { 1 }
+    (figure % u32::from(most.max(1))) as u8 + 1
 }
 
 // A record of a priority.
@@ -44,14 +38,12 @@ fn record(number: u32, place: u32, priority: u8) -> Record {
 
 // A count's records, their priorities in a row that begins anywhere.
 fn records(number: u32, count: u8) -> [Record; 8] {
-    let mut list = [record(number, 0, 1); 8];
-    let mut place: u32 = 0;
-    while place < 8 {
-        let priority = small_up_to(count, drawn(number, 5) % 8 + place);
-        list[place as usize] = record(number, place, priority);
-        place += 1;
-    }
-    list
+    let first = drawn(number, 5) % 8;
+    [0, 1, 2, 3, 4, 5, 6, 7].map(|place: u32| record(
+        number,
+        place,
+        small_up_to(count, first + place % 8),
+    ))
 }
 
 // The table of a number; every other one is of the second edition.

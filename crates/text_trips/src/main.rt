@@ -15,26 +15,20 @@ const SHEETS: u32 = 10000;
 
 // The table of a text's figures as they are.
 fn table_of(page: &[u8]) -> Table {
-    let understood = text::read(page);
-    let figures = understood.figures;
-    let fitted = text::scaled(figures, 1);
-    let table = fitted.table;
-    table
+    text::scaled(text::read(page).figures, 1).table
 }
 
 // Whether a table's sheet is the bytes that a text is read and written as.
 fn is_read_as(table: Table, page: &[u8]) -> bool {
     let mut before = [0u8; 80];
     let mut after = [0u8; 80];
-    let written = sheet::write(table, &mut before);
-    let again = sheet::write(table_of(page), &mut after);
-    if (written.refusal != 0) | (again.refusal != 0) {
+    let (Ok(written), Ok(again)) = (
+        sheet::write(table, &mut before),
+        sheet::write(table_of(page), &mut after),
+    ) else {
         return false;
-    }
-    check::same(
-        rows::first(&before, written.written),
-        rows::first(&after, again.written),
-    )
+    };
+    rows::first(&before, written) == rows::first(&after, again)
 }
 
 // Whether the sheet of a table is the same after it was shown, and its text read and written.
@@ -51,25 +45,10 @@ fn is_turned_back(table: Table, number: u32) -> bool {
     is_read_as(table, rows::first(&page, size))
 }
 
-// 1 where the sheet of a number differs, else 0.
-fn difference(number: u32) -> u32 {
+// Whether the sheet of a number differs.
+fn differs(number: u32) -> bool {
     let table = drawing::table(number);
-    if is_shown_back(table) & is_turned_back(table, number) {
-        0
-    } else {
-        1
-    }
-}
-
-// How many sheets differ.
-fn differing() -> u32 {
-    let mut number: u32 = 0;
-    let mut different: u32 = 0;
-    while number < SHEETS {
-        different = std::num::wrapping_add_u32(different, difference(number));
-        number += 1;
-    }
-    different
+    !is_shown_back(table) || !is_turned_back(table, number)
 }
 
 fn main() {
@@ -78,6 +57,7 @@ fn main() {
         STDOUT_FILENO,
         b" sheets shown, and written as other tools do, read and written again, ",
     );
-    io::print_decimal(STDOUT_FILENO, differing() as u64);
+    let differing = (0..SHEETS).filter(|number| differs(*number)).count();
+    io::print_decimal(STDOUT_FILENO, differing as u64);
     io::write_all(STDOUT_FILENO, b" differ\n");
 }

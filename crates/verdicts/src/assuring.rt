@@ -1,11 +1,12 @@
 // `assured`: the assured time of each task, and every choice of fault priorities that holds in every run.
 use analysis::{Entry, Slack};
 use assured::Times;
-use console::{output, passing, refusals};
-use lines::Task;
+use console::{output, passing, refusals, responses};
 use sheet::Table;
+use sources::taking::Taken;
 use sources::{taking, titles};
 use std::io::Error;
+use streams::endings::Ending;
 use streams::words::Asked;
 use streams::{endings, words};
 
@@ -19,56 +20,50 @@ fn untimed(given: assured::Entry) -> Entry {
     }
 }
 
-// Prints a line for each of so many tasks.
-fn print_times(rt: HostRuntime, count: u8, times: Times, tasks: [Task; 8]) -> Result<(), Error> {
-    let entries = times.entries;
-    let mut buffer = io::buffer();
-    let mut end: usize = 0;
-    for place in 0..8u8 {
-        if place < count {
-            let entry = entries[place as usize];
-            let line = titles::titled(report::task_line(place, untimed(entry)), tasks, place);
-            end = report::put_line(line, &mut buffer, end);
-        }
-    }
-    output::write(rt, &buffer, end)
+// Prints a line for each task.
+fn print_times(rt: HostRuntime, taken: Taken, times: Times) -> Result<(), Error> {
+    let stream = rt.stdout();
+    let tasks = taken.tasks;
+    let entries = times.entries.map(|entry| untimed(entry));
+    let mut page = output::EMPTY;
+    responses::keep(
+        &mut page,
+        &stream,
+        taken.table.count,
+        entries,
+        |line, place| { titles::titled(line, &tasks, place) },
+    )?;
+    page.write(&stream)
 }
 
 // Prints every assured choice of a table.
 fn print_choices(rt: HostRuntime, table: Table) -> Result<(), Error> {
     let mut list = [0u8; passing::ROOM];
-    let listing = assured::list(table, &mut list);
-    passing::print_list(rt, table.count, &list, listing.entries)
+    let entries = assured::list(table, &mut list).unwrap_or(0);
+    passing::print_list(rt, table.count, &list, entries)
 }
 
-// Prints the times of so many tasks, and then the choices.
-fn print(rt: HostRuntime, table: Table, times: Times, tasks: [Task; 8]) -> Result<(), Error> {
-    print_times(rt, table.count, times, tasks)?;
-    print_choices(rt, table)
+// Prints the times, and then the choices.
+fn print(rt: HostRuntime, taken: Taken, times: Times) -> Result<(), Error> {
+    print_times(rt, taken, times)?;
+    print_choices(rt, taken.table)
 }
 
 // Prints the answer to a good sheet.
-fn answer(rt: HostRuntime, table: Table, tasks: [Task; 8], is_explained: bool) -> u8 {
-    let times = assured::assured_times(table);
-    if times.refusal != 0 {
-        return refusals::print(rt, times.refusal, is_explained);
-    }
-    match print(rt, table, times, tasks) {
-        Ok(()) => endings::of(times.assured),
-        Err(error) => endings::failed(error),
+fn answer(rt: HostRuntime, taken: Taken, is_explained: bool) -> Ending {
+    match assured::assured_times(taken.table) {
+        Ok(times) => endings::ended(print(rt, taken, times), endings::of(times.assured)),
+        Err(refusal) => refusals::print(rt, refusal.number(), is_explained),
     }
 }
 
 // Assures the sheet that the one word names.
-pub fn run(rt: HostRuntime, asked: Asked) -> u8 {
+pub fn run(rt: HostRuntime, asked: Asked) -> Ending {
     if asked.count != 1 {
         return words::trouble(b"assured takes one word, SHEET");
     }
-    let taken = taking::table(rt, asked, words::at(asked, 0));
-    if !taken.is_good {
-        return endings::TROUBLE;
+    match taking::table(rt, asked, words::at(asked, 0)) {
+        Some(taken) => answer(rt, taken, asked.is_explained),
+        None => Ending::Trouble,
     }
-    let table = taken.table;
-    let tasks = taken.tasks;
-    answer(rt, table, tasks, asked.is_explained)
 }

@@ -1,6 +1,6 @@
 -- The equations one by one: each rises with the length, and its time out of the columns is that of the record's place. Assumes nothing.
 use Prim.Native.Nat.{ℕ, ◌+◌, ◌-◌, ◌*◌, ◌≤◌, ◌<◌}
-use mathlib.Core.Path.{◌≡◌, ap, ◌∙◌}
+use mathlib.Core.Path.{◌≡◌, refl, ap, ◌∙◌}
 use mathlib.Core.Bool.{Bool, true, false, cond}
 use mathlib.Core.List.{List}
 use native.Mathlib.Nat.{le_refl, mul-le-mul_right}
@@ -20,6 +20,9 @@ use Rattle.analysis.specs.Common.Supplier.{supplier_of}
 use Rattle.analysis.specs.Common.ByRank.{rank_of, ranked, frame_of, ColumnsOf, FaultsOf}
 use Rattle.analysis.specs.Published.Equations.{is_between, asked_elsewhere, asked_itself, struck_elsewhere, struck_itself}
 use Rattle.analysis.specs.Assured.Equation.{is_over, backup_ahead, asked_assured, assured_equation}
+use Rattle.analysis.specs.Common.Search.{least_within}
+use Rattle.analysis.specs.Published.Response.{time_elsewhere, time_itself}
+use Rattle.analysis.specs.Assured.Time.{assured_within, assured_time}
 use Rattle.analysis.specs.ByEquation.{asked_by, time_of}
 use Rattle.analysis.proofs.Laws.Common.Rounding.{up-rises}
 use Rattle.analysis.proofs.Laws.Published.Columned.{elsewhere-ranked, itself-ranked}
@@ -55,6 +58,13 @@ asked-rises equation s i a b longer = by equation
         later : (up a s.interval - 1) * backup_from_fault s i ≤ (up b s.interval - 1) * backup_from_fault s i
         later = mul-le-mul_right (backup_from_fault s i) (let more = up-rises s.interval longer in omega arith)
     by Assurance = omega (arith, runs (is_over s i (s.fault i)), faults (backup_ahead s i), supplier)
+
+-- the time by an equation is what a search up to 65,535 finds
+pub solved-by : (equation : Equation) (s : Tasks) (i : ℕ) → least_within (asked_by equation s i) 1 65535 ≡ time_of equation s i
+unfolding asked_by time_of time_elsewhere time_itself assured_time assured_within
+solved-by Elsewhere s i = refl
+solved-by Itself s i = refl
+solved-by Assurance s i = refl
 
 -- the columns of a good table have its times, each at its record's rank
 pub solved-there : (t : Table) → table_refusal t ≡ 0 → (columns : List ℕ) → ColumnsOf t columns → (choice faults : List ℕ) → FaultsOf t choice faults → {frame : Frame} → frame ≡ frame_of t t.interval

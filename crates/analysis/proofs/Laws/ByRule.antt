@@ -1,10 +1,15 @@
 -- What is known of a table that is not refused under a rule, and what is answered by one. Assumes nothing.
 use Prim.Native.Nat.{ℕ, ◌<◌}
 use mathlib.Core.Path.{◌≡◌, refl, sym, ap, ap₂, ◌∙◌}
-use mathlib.Core.Bool.{Bool, cond, not}
+use mathlib.Core.Bool.{Bool, true, false, cond, not}
 use mathlib.Core.List.{List}
 use borrow.Author.Tests.{eq-eqb}
+use lib.Dec.{eqb}
 use lib.ListN.{length, get_or, replicate}
+use Rattle.std.specs.Prelude.{Some, None, Result, Ok, Err}
+use Rattle.std.specs.Result.{result_unwrap_or}
+use Rattle.places.specs.declared.refusal.Refusal.{Refusal}
+use Rattle.places.specs.Answered.{numbered, answered}
 use Rattle.places.specs.Places.{some_below, filled_below}
 use Rattle.places.proofs.Agree.{some-agree, filled-agree}
 use Rattle.places.proofs.Gathered.{some-reordered}
@@ -12,9 +17,10 @@ use Rattle.places.proofs.Refusals.{none_of}
 use Rattle.sheet.specs.declared.Table.{Table}
 use Rattle.sheet.specs.Rules.{table_refusal, shared_refusal}
 use Rattle.analysis.specs.declared.common.by_rank.Frame.{Frame}
-use Rattle.analysis.specs.declared.Entry.{Entry}
 use Rattle.analysis.specs.declared.Rule.{Rule}
 use Rattle.analysis.specs.declared.Rule.TheVariants.{Published, Assured}
+use Rattle.analysis.specs.Told.{some_of, least_told}
+use Rattle.analysis.specs.Told.Interval.{Refused, Least, Nothing}
 use Rattle.analysis.specs.Common.Columns.{priorities_of}
 use Rattle.analysis.specs.Common.Allowed.{all_allowed, Within}
 use Rattle.analysis.specs.Common.Tasks.{Tasks, tasks_of, own_choice}
@@ -22,7 +28,7 @@ use Rattle.analysis.specs.Common.Entries.{is_late, entry_from, no_entry, assesse
 use Rattle.analysis.specs.Common.ByRank.{rank_of, ranked, frame_of, ColumnsOf, FaultsOf, RanksOf}
 use Rattle.analysis.specs.Published.Response.{response_within, response_time, passes}
 use Rattle.analysis.specs.Assured.Time.{assured_time, assured}
-use Rattle.analysis.specs.Published.Answers.{entry_of, timed_refusal, timed_answer, choice_refusal, choice_assessment, least_interval, interval_answer}
+use Rattle.analysis.specs.Published.Answers.{entry_of, timed_refusal, timed_answer, choice_refusal, choice_assessment, least_interval, least_of, interval_answer}
 use Rattle.analysis.specs.ByRule.{rule_refusal, meets, judged_refusal, time_by, entry_by, choice_assessment_by, ranked_assessment, meets_answer, place_refusal, timed_by, least_interval_by, interval_answer_by}
 use Rattle.analysis.proofs.Laws.Common.Choice.{allowed-kept, own-last}
 use Rattle.analysis.proofs.Laws.Common.Placing.{ranks}
@@ -41,6 +47,11 @@ unfolding judged_refusal
 judged-good rule t choice eight e =
     let both = none_of (rule_refusal rule t) (cond (all_allowed (priorities_of t) choice) 0 13) e in
     (both.0, allowed-kept t (rule-good rule t both.0) choice eight both.1)
+
+pub judged-fine : (rule : Rule) (t : Table) (choice : List ℕ) → length choice ≡ 8 → judged_refusal rule t choice ≡ 0 → (table_refusal t ≡ 0) × Within t choice
+judged-fine rule t choice eight e =
+    let both = judged-good rule t choice eight e in
+    (rule-good rule t both.0, both.1)
 
 -- the table's own fault priorities are refused exactly as the table is
 pub own-judged : (rule : Rule) (t : Table) → judged_refusal rule t (own_choice t) ≡ rule_refusal rule t
@@ -117,6 +128,11 @@ module _ (t : Table) (good : table_refusal t ≡ 0) (columns : List ℕ) (filled
       ∙ some-agree t.count (λ place below. ap₂ is_late (filled place below).deadline (time-there-at rule place below)))
       ∙ sym (meets-each rule tasks-at)
 
+-- an assessment is refused as its choice is
+pub assessment-refusal : (rule : Rule) (t : Table) (choice : List ℕ) → (choice_assessment_by rule t choice).refusal ≡ judged_refusal rule t choice
+unfolding choice_assessment_by assessed
+assessment-refusal rule t choice = refl
+
 -- where a choice is not refused, the verdict is whether it meets
 pub assessed-meets : (rule : Rule) (t : Table) (choice : List ℕ) → judged_refusal rule t choice ≡ 0 → (choice_assessment_by rule t choice).passes ≡ meets rule (tasks_of t t.interval choice)
 unfolding choice_assessment_by assessed
@@ -139,3 +155,23 @@ timed-published t place = refl
 pub interval-published : (t : Table) → interval_answer_by Published t ≡ interval_answer t
 unfolding interval_answer_by least_interval_by interval_answer least_interval rule_refusal meets
 interval-published t = refl
+
+-- what is answered for the least interval: it, or that there is none
+pub least-answered : (refusal least : ℕ) → least_told (least_of refusal least) ≡ answered refusal (some_of least)
+unfolding least_of answered some_of least_told
+least-answered refusal least = go (eqb refusal 0) (eqb least 0)
+  where
+    go : (fine none : Bool) → least_told (cond fine (cond none Nothing (Least least)) (Refused refusal)) ≡ cond fine (Ok (cond none None (Some least))) (Err (numbered refusal))
+    go true true = refl
+    go true false = refl
+    go false none = refl
+
+-- the verdict that is told, and no where the call is refused
+pub verdict-told : (refusal : ℕ) (said : Bool) {told : Result Bool Refusal} → told ≡ answered (verdict_of refusal said).refusal (verdict_of refusal said).yes
+    → result_unwrap_or told false ≡ (verdict_of refusal said).yes
+unfolding verdict_of answered
+verdict-told refusal said e = ap (λ (x : Result Bool Refusal). result_unwrap_or x false) e ∙ go (eqb refusal 0)
+  where
+    go : (fine : Bool) → result_unwrap_or (cond fine (Ok (cond fine said false)) (Err (numbered refusal))) false ≡ cond fine said false
+    go true = refl
+    go false = refl

@@ -1,31 +1,39 @@
 -- A sheet that is read straight into columns: they hold the tasks of its table by rank, and what is refused is what its table is refused for. Assumes nothing.
-use Prim.Native.Nat.{ℕ, ◌<◌}
-use mathlib.Core.Path.{◌≡◌, refl, sym, ap, ◌∙◌}
+use Prim.Native.Nat.{ℕ, ◌<◌, ◌≤◌}
+use mathlib.Core.Path.{◌≡◌, sym, ap, subst, ◌∙◌, refl}
 use mathlib.Core.Bool.{cond}
-use mathlib.Core.List.{List}
+use mathlib.Core.List.{List, []}
+use mathlib.Core.Logic.{inl}
 use native.Mathlib.Decide.{ℕ_discrete}
+use native.Mathlib.Omega.{arith}
 use borrow.Author.Tests.{ne_eqb}
 use lib.Dec.{ltb}
-use lib.ListN.{length, get_or}
+use lib.ListN.{length, get_or, replicate}
+use Rattle.std.specs.Prelude.{Ok}
 use Rattle.places.specs.Refusals.{or_else}
-use Rattle.places.proofs.Refusals.{first_of, next-of}
+use Rattle.places.specs.Answered.{answered}
+use Rattle.places.proofs.Refusals.{first_of, next-of, else-joined, none_of}
+use Rattle.places.proofs.Answered.{good_of, value_of, Known, known_else, known_unless}
 use Rattle.sheet.specs.declared.Ranked.{Ranked}
 use Rattle.sheet.specs.declared.Table.{Table}
-use Rattle.sheet.specs.Layout.{is_whole, table_of}
+use Rattle.sheet.specs.Layout.{table_of}
 use Rattle.sheet.specs.Rules.{sheet_refusal, table_refusal, shared_refusal}
-use Rattle.sheet.specs.Answers.{ranked_answer, columns_left, faults_left, ranks_left}
-use Rattle.sheet.proofs.Cases.{good-table}
+use Rattle.sheet.specs.Answers.{ranked_answer, figures_told, columns_left, faults_left, ranks_left}
+use Rattle.sheet.proofs.Told.{sheet-known, table-known, whole-table-known}
+use Rattle.sheet.proofs.Cases.{good-table, place-below}
 use Rattle.sheet.proofs.Demands.{table-good, ranked-good, columns-ranked, faults-ranked, ranks-ranked}
 use Rattle.analysis.specs.declared.Rule.{Rule}
 use Rattle.analysis.specs.declared.Rule.TheVariants.{Published, Assured}
 use Rattle.analysis.specs.declared.common.by_rank.Frame.{Frame}
 use Rattle.analysis.specs.Common.Tasks.{own_choice}
-use Rattle.analysis.specs.Common.Entries.{assessed, untimed}
-use Rattle.analysis.specs.Common.ByRank.{rank_of, frame_of, frame_read, ColumnsOf, FaultsOf, RanksOf}
-use Rattle.analysis.specs.ByRule.{rule_refusal, place_refusal, choice_assessment_by, own_assessment_by}
-use Rattle.analysis.specs.BySheet.{shared_by, read_refusal, read_place_refusal, sheet_place_refusal, assessed_in}
-use Rattle.analysis.proofs.Laws.Common.Choice.{own_at}
-use Rattle.analysis.proofs.Laws.ByRule.{own-judged}
+use Rattle.analysis.specs.Common.Entries.{assessed, own_tasks}
+use Rattle.analysis.specs.Common.ByRank.{rank_of, frame_of, ColumnsOf, FaultsOf, RanksOf, ranked, InOrder, ChosenIn}
+use Rattle.analysis.specs.ByRule.{rule_refusal, place_refusal, choice_assessment_by, own_assessment_by, entry_by, ranked_assessment}
+use Rattle.analysis.specs.BySheet.{shared_by, sheet_rule_refusal, sheet_place_refusal, assessed_in}
+use Rattle.analysis.proofs.Laws.Common.Choice.{own_at, own-allowed}
+use Rattle.analysis.proofs.Laws.ByRule.{own-judged, entry-there, assessed-there}
+use Rattle.analysis.proofs.Laws.Common.Columned.{chosen-there, ranks-there}
+use Rattle.analysis.proofs.Laws.Bounds.ByRank.{in-ranks-order}
 
 -- a good table is refused under a rule for its round and share only
 rule-shared : (rule : Rule) (t : Table) → table_refusal t ≡ 0 → rule_refusal rule t ≡ shared_by rule t.round t.share
@@ -51,52 +59,89 @@ module _ (s : List ℕ) (good : sheet_refusal s ≡ 0) where
   unfolding rank_of table_of
   sheet-ranks ranks long put place below = rw put (ranks-ranked s good ranks long place below)
 
-  -- the frame is the table's
-  pub sheet-frame : {read : Ranked} → read ≡ ranked_answer s → {frame : Frame} → frame ≡ frame_read read → frame ≡ frame_of table table.interval
-  sheet-frame e framed = framed ∙ ap frame_read (e ∙ ranked-good s good)
+  -- so what is read is lent as tasks in order under a choice, and has the entries and the verdict of its table
+  module _ {columns : List ℕ} (filled : columns ≡ columns_left s (replicate 32 0)) {frame : Frame} (framed : frame ≡ frame_of table table.interval) where
+    pub sheet-order : InOrder (ranked columns frame [])
+    sheet-order = in-ranks-order table (table-good s good) columns (sheet-columns (replicate 32 0) refl filled) framed
 
--- what is read of a sheet has its refusal
-pub read-refusal : (s : List ℕ) {read : Ranked} → read ≡ ranked_answer s → read.refusal ≡ sheet_refusal s
+    module _ {faults : List ℕ} (beside : faults ≡ faults_left s (replicate 8 0)) where
+      pub sheet-chosen : ChosenIn (ranked columns frame faults)
+      sheet-chosen =
+          let sound = table-good s good in
+          chosen-there table sound columns (sheet-columns (replicate 32 0) refl filled) (own_choice table) faults (sheet-faults (replicate 8 0) refl beside) framed (own-allowed table sound).each
+
+      module _ {ranks : List ℕ} (put : ranks ≡ ranks_left s (replicate 8 0)) where
+        pub sheet-below : (place : ℕ) → place < frame.count → get_or ranks place 0 < frame.count
+        sheet-below =
+            ranks-there table (table-good s good) columns (sheet-columns (replicate 32 0) refl filled) (own_choice table) faults (sheet-faults (replicate 8 0) refl beside) framed ranks (sheet-ranks (replicate 8 0) refl put)
+
+        pub sheet-entry : (rule : Rule) (place : ℕ) → place < table.count → entry_by rule (ranked columns frame faults) (get_or ranks place 0) ≡ entry_by rule (own_tasks table) place
+        sheet-entry rule place below =
+            entry-there table (table-good s good) columns (sheet-columns (replicate 32 0) refl filled) (own_choice table) faults (sheet-faults (replicate 8 0) refl beside) framed rule place below (sheet-ranks (replicate 8 0) refl put place below)
+
+        pub sheet-assessed : (rule : Rule) → rule_refusal rule table ≡ 0 → ranked_assessment rule (ranked columns frame faults) ranks ≡ own_assessment_by rule table
+        unfolding own_assessment_by
+        sheet-assessed rule fine =
+            assessed-there table (table-good s good) columns (sheet-columns (replicate 32 0) refl filled) (own_choice table) faults (sheet-faults (replicate 8 0) refl beside) framed rule (own-judged rule table ∙ fine) ranks (sheet-ranks (replicate 8 0) refl put)
+
+  -- a good sheet has eight records at most
+  pub table-few : table.count ≤ 8
+  table-few = (good-table table (table-good s good)).count.1
+
+-- the frame of what was read is the table's
+pub sheet-frame : (s : List ℕ) {read : Ranked} → Ok read ≡ answered (ranked_answer s).refusal (figures_told (ranked_answer s))
+    → (sheet_refusal s ≡ 0) × (record { count = read.count; interval = read.interval; round = read.round; share = read.share } ≡ frame_of (table_of s) (table_of s).interval)
 unfolding ranked_answer
-read-refusal s e = ap (λ (r : Ranked). r.refusal) e
-
--- and is refused as its table is, after the sheet itself
-pub read-judged : (rule : Rule) (s : List ℕ) {read : Ranked} → read ≡ ranked_answer s → read_refusal rule read ≡ or_else (sheet_refusal s) (rule_refusal rule (table_of s))
-unfolding read_refusal
-read-judged rule s {read} e = go (ℕ_discrete (sheet_refusal s) 0)
+sheet-frame s is =
+    let good = good_of _ _ is in
+    (good, ap framed (value_of _ _ is ∙ ap figures_told (ranked-good s good)))
   where
-    told : read.refusal ≡ sheet_refusal s
-    told = read-refusal s e
+    framed : Ranked → Frame
+    framed read = record { count = read.count; interval = read.interval; round = read.round; share = read.share }
 
-    go : Dec (sheet_refusal s ≡ 0) → or_else read.refusal (shared_by rule read.round read.share) ≡ or_else (sheet_refusal s) (rule_refusal rule (table_of s))
-    go (yes good) =
-        next-of _ (told ∙ good) ∙ ap (λ (r : Ranked). shared_by rule r.round r.share) (e ∙ ranked-good s good)
-        ∙ sym (rule-shared rule (table_of s) (table-good s good)) ∙ sym (next-of _ good)
-    go (no broken) = first_of _ _ (λ none. broken (sym told ∙ none)) ∙ told ∙ sym (first_of _ _ broken)
+-- and what it is refused for by a rule, its table
+pub shared-read : (rule : Rule) (s : List ℕ) {read : Ranked} → Ok read ≡ answered (ranked_answer s).refusal (figures_told (ranked_answer s))
+    → shared_by rule read.round read.share ≡ rule_refusal rule (table_of s)
+shared-read rule s is =
+    let told = sheet-frame s is in
+    ap (λ (f : Frame). shared_by rule f.round f.share) told.1 ∙ sym (rule-shared rule (table_of s) (table-good s told.0))
 
--- for a place too
-pub place-judged : (rule : Rule) (s : List ℕ) {read : Ranked} → read ≡ ranked_answer s → (place : ℕ) → read_place_refusal rule read place ≡ sheet_place_refusal rule s place
-unfolding read_place_refusal sheet_place_refusal place_refusal
-place-judged rule s {read} e place = go (ℕ_discrete (sheet_refusal s) 0)
+-- the refusal for a place is that of the sheet under the rule, then 12
+pub place-after : (rule : Rule) (s : List ℕ) (place : ℕ) → sheet_place_refusal rule s place ≡ or_else (sheet_rule_refusal rule s) (cond (ltb place (table_of s).count) 0 12)
+unfolding sheet_place_refusal place_refusal sheet_rule_refusal
+place-after rule s place = sym (else-joined (sheet_refusal s) (rule_refusal rule (table_of s)) _)
+
+-- each such refusal is a number of the tables
+pub rule-known : (rule : Rule) (t : Table) → Known (rule_refusal rule t)
+unfolding rule_refusal
+rule-known Published t = table-known t
+rule-known Assured t = whole-table-known t
+
+pub sheet-rule-known : (rule : Rule) (s : List ℕ) → Known (sheet_rule_refusal rule s)
+unfolding sheet_rule_refusal
+sheet-rule-known rule s = known_else (sheet-known s) (rule-known rule (table_of s))
+
+pub sheet-place-known : (rule : Rule) (s : List ℕ) (place : ℕ) → Known (sheet_place_refusal rule s place)
+sheet-place-known rule s place =
+    subst Known (sym (place-after rule s place)) (known_else (sheet-rule-known rule s) (known_unless (ltb place (table_of s).count) 12 (inl (omega arith, omega arith))))
+
+-- not refused, the sheet is good and the place one of a record
+pub place-fine : (rule : Rule) (s : List ℕ) (place : ℕ) → sheet_place_refusal rule s place ≡ 0 → (sheet_refusal s ≡ 0) × (place < (table_of s).count)
+unfolding sheet_place_refusal place_refusal
+place-fine rule s place fine =
+    let both = none_of (sheet_refusal s) _ fine in
+    (both.0, place-below _ _ (none_of _ _ both.1).1)
+
+-- a good sheet is assessed as its table is
+pub assessed-good : (rule : Rule) (s : List ℕ) → sheet_refusal s ≡ 0 → assessed_in rule s ≡ own_assessment_by rule (table_of s)
+unfolding assessed_in
+assessed-good rule s good = simp good
+
+-- and any is refused for its own rules, then for its table's
+pub assessed-refusal : (rule : Rule) (s : List ℕ) → (assessed_in rule s).refusal ≡ sheet_rule_refusal rule s
+unfolding sheet_rule_refusal assessed_in own_assessment_by choice_assessment_by assessed
+assessed-refusal rule s = go (ℕ_discrete (sheet_refusal s) 0)
   where
-    judged : read_refusal rule read ≡ or_else (sheet_refusal s) (rule_refusal rule (table_of s))
-    judged = read-judged rule s e
-
-    go : Dec (sheet_refusal s ≡ 0) → or_else (read_refusal rule read) (cond (ltb place read.count) 0 12) ≡ or_else (sheet_refusal s) (or_else (rule_refusal rule (table_of s)) (cond (ltb place (table_of s).count) 0 12))
-    go (yes good) =
-        ap (λ (r : Ranked). or_else (read_refusal rule read) (cond (ltb place r.count) 0 12)) (e ∙ ranked-good s good)
-        ∙ ap (λ (n : ℕ). or_else n (cond (ltb place (table_of s).count) 0 12)) (judged ∙ next-of _ good) ∙ sym (next-of _ good)
-    go (no broken) =
-        let refused = judged ∙ first_of _ _ broken in
-        first_of _ _ (λ none. broken (sym refused ∙ none)) ∙ refused ∙ sym (first_of _ _ broken)
-
--- refused, it has no times
-pub untimed-in : (rule : Rule) (s : List ℕ) → (or_else (sheet_refusal s) (rule_refusal rule (table_of s)) ≡ 0 → ⊥) → untimed (or_else (sheet_refusal s) (rule_refusal rule (table_of s))) ≡ assessed_in rule s
-unfolding assessed_in own_assessment_by choice_assessment_by assessed
-untimed-in rule s refused = go (ℕ_discrete (sheet_refusal s) 0)
-  where
-    go : Dec (sheet_refusal s ≡ 0) → untimed (or_else (sheet_refusal s) (rule_refusal rule (table_of s))) ≡ assessed_in rule s
-    go (yes good) =
-        let next = next-of (rule_refusal rule (table_of s)) good in
-        ap untimed next ∙ simp (good, own-judged rule (table_of s), ne_eqb (rule_refusal rule (table_of s)) 0 (λ none. refused (next ∙ none)))
-    go (no broken) = ap untimed (first_of _ _ broken) ∙ simp (ne_eqb (sheet_refusal s) 0 broken)
+    go : Dec (sheet_refusal s ≡ 0) → (assessed_in rule s).refusal ≡ or_else (sheet_refusal s) (rule_refusal rule (table_of s))
+    go (yes good) = (simp good (own-judged rule (table_of s))) ∙ sym (next-of _ good)
+    go (no broken) = (simp (ne_eqb (sheet_refusal s) 0 broken)) ∙ sym (first_of _ _ broken)

@@ -11,6 +11,7 @@ pub mod Placing
 pub mod Columned
 pub mod Ranked
 pub mod InOrder
+pub mod Lent
 pub mod Jumping
 pub mod Taken
 pub mod Started

@@ -1,6 +1,6 @@
 -- A rule and the fault interval: a time by either rule never lengthens when the interval grows, so that a rule that is met stays met; at E = 1 no rule is met; and the columns of a good table tell the same, so that halving finds the least interval. Assumes nothing.
 use Prim.Native.Nat.{ℕ, suc, ◌≤◌, ◌<◌}
-use mathlib.Core.Path.{◌≡◌, refl, sym, ap, subst, ◌∙◌, fun_ext}
+use mathlib.Core.Path.{◌≡◌, refl, sym, ap, ◌∙◌, fun_ext}
 use mathlib.Core.Bool.{Bool, true, false, not, true≢false}
 use mathlib.Core.List.{List}
 use native.Mathlib.Nat.{mul-le-mul_right}
@@ -14,11 +14,12 @@ use Rattle.sheet.specs.Layout.{record_at}
 use Rattle.sheet.specs.Rules.{table_refusal}
 use Rattle.sheet.proofs.Cases.{good-table, good-at}
 use Rattle.analysis.specs.declared.common.by_rank.Frame.{Frame}
+use Rattle.analysis.specs.declared.common.tasks.Chosen.{Chosen}
 use Rattle.analysis.specs.declared.Rule.{Rule}
 use Rattle.analysis.specs.declared.Rule.TheVariants.{Published, Assured}
 use Rattle.analysis.specs.Common.Tasks.{tasks_of, own_choice}
 use Rattle.analysis.specs.Common.Entries.{is_late}
-use Rattle.analysis.specs.Common.ByRank.{ranked, frame_of, at_interval, ColumnsOf, FaultsOf, InOrder, ChosenIn}
+use Rattle.analysis.specs.Common.ByRank.{ranked, frame_of, at_interval, ColumnsOf, FaultsOf}
 use Rattle.analysis.specs.Published.Response.{response_time}
 use Rattle.analysis.specs.Assured.Equation.{is_over, is_ahead, backup_ahead, asked_assured, assured_equation}
 use Rattle.analysis.specs.Assured.Time.{assured_within, assured_time, unassured, assured}
@@ -28,8 +29,6 @@ use Rattle.analysis.proofs.Laws.Common.Easier.{NoLater, least-easier}
 use Rattle.analysis.proofs.Laws.Common.Verdicts.{on-time-within, within-on-time}
 use Rattle.analysis.proofs.Laws.Published.Halving.{Kept, Between, halved-found}
 use Rattle.analysis.proofs.Laws.Published.EachTick.{assured-never}
-use Rattle.analysis.proofs.Laws.Common.Choice.{own-allowed}
-use Rattle.analysis.proofs.Laws.Common.Columned.{ranked-order, ranked-chosen}
 use Rattle.analysis.proofs.Laws.Published.Easier.{up-falls, falls-with-interval}
 use Rattle.analysis.proofs.Laws.ByRule.{meets-each, meets-there-at}
 
@@ -89,40 +88,33 @@ unmet-at-1 Assured t good choice = ap not (some-found (unassured (tasks_of t 1 c
         let task = good-at t.count (record_at t.records) (good-table t good).records 0 first in
         (low-none (tasks_of t 1 choice) 0).1 (λ k low high. assured-never (tasks_of t 1 choice) refl 0 first task.cost.0 task.backup.0 k)
 
--- whether the tasks in columns meet a rule at an interval
-abbrev pub met_at : Rule → List ℕ → Frame → List ℕ → ℕ → Bool
-met_at rule columns frame faults interval = meets rule (ranked columns (at_interval frame interval) faults)
+-- whether the tasks that are lent meet a rule at an interval
+abbrev pub met_among : Rule → Chosen → ℕ → Bool
+met_among rule among interval = meets rule (ranked among.tasks.columns.now (at_interval among.tasks.frame interval) among.faults.now)
+
+-- what halving relies on: what is met at one interval is met at a larger one, 1 fails, and the first at which the rule is met is the table's least
+pub record Halvable (rule : Rule) (t : Table) (among : Chosen) : Type 0 where
+  pub kept : Kept (met_among rule among)
+  pub begun : Between (met_among rule among) 65536 1 65536
+  pub first : first_from (met_among rule among) 1 65535 ≡ least_interval_by rule t
 
 -- with the table's own fault priorities, as the least interval is found
-module _ (rule : Rule) (t : Table) (good : table_refusal t ≡ 0) (columns : List ℕ) (filled : ColumnsOf t columns) (faults : List ℕ) (beside : FaultsOf t (own_choice t) faults) (frame : Frame) (same : frame ≡ frame_of t t.interval) where
+module _ (rule : Rule) (t : Table) (good : table_refusal t ≡ 0) (among : Chosen) (filled : ColumnsOf t among.tasks.columns.now) (beside : FaultsOf t (own_choice t) among.faults.now) (framed : among.tasks.frame ≡ frame_of t t.interval) where
   abbrev met : ℕ → Bool
-  met = met_at rule columns frame faults
+  met = met_among rule among
 
   met-there : (interval : ℕ) → met interval ≡ meets rule (tasks_of t interval (own_choice t))
-  met-there interval = meets-there-at t good columns filled (own_choice t) faults beside {interval = interval} (ap (λ (f : Frame). at_interval f interval) same) rule
+  met-there interval = meets-there-at t good among.tasks.columns.now filled (own_choice t) among.faults.now beside {interval = interval} (ap (λ (f : Frame). at_interval f interval) framed) rule
 
-  -- the tasks stand in order at each interval that is not 0
-  pub order-at : (interval : ℕ) → 1 ≤ interval → {at : Frame} → at ≡ at_interval frame interval → InOrder (ranked columns at faults) × ChosenIn (ranked columns at faults)
-  order-at interval some e =
-      let here = e ∙ ap (λ (f : Frame). at_interval f interval) same in (
-        subst (λ (f : Frame). InOrder (ranked columns f faults)) (sym here) (ranked-order t good columns filled interval (own_choice t) faults beside some),
-        subst (λ (f : Frame). ChosenIn (ranked columns f faults)) (sym here) (ranked-chosen t good columns filled interval (own_choice t) faults beside (own-allowed t good).each),
-      )
-
-  -- what meets the rule at one interval meets it at a larger one
-  pub kept_at : Kept met
-  kept_at small large some less is = met-there large ∙ meets-kept rule t (own_choice t) small large some less (sym (met-there small) ∙ is)
-
-  -- before the first verdict it is known that 1 fails
-  pub begun-at : Between met 65536 1 65536
-  begun-at =
-      record {
-        apart = (omega arith, omega arith, omega arith);
-        below = λ k low high. let only : k ≡ 1 = omega arith in ap met only ∙ met-there 1 ∙ unmet-at-1 rule t good (own_choice t);
-        above = λ low. absurd (omega arith);
-      }
-
-  -- and the first interval at which it is met is the least
-  pub first-at : first_from met 1 65535 ≡ least_interval_by rule t
+  pub halvable : Halvable rule t among
   unfolding least_interval_by
-  first-at = ap (λ (test : ℕ → Bool). first_from test 1 65535) (fun_ext met-there)
+  halvable =
+      record {
+        kept = λ small large some less is. met-there large ∙ meets-kept rule t (own_choice t) small large some less (sym (met-there small) ∙ is);
+        begun = record {
+          apart = (omega arith, omega arith, omega arith);
+          below = λ k low high. let only : k ≡ 1 = omega arith in ap met only ∙ met-there 1 ∙ unmet-at-1 rule t good (own_choice t);
+          above = λ low. absurd (omega arith);
+        };
+        first = ap (λ (test : ℕ → Bool). first_from test 1 65535) (fun_ext met-there);
+      }

@@ -1,21 +1,19 @@
 -- `analysis::meets_choice` meets its contract. Assumes nothing.
-use mathlib.Core.Path.{sym, ◌∙◌}
-use borrow.Author.Tests.{ne_eqb}
+use mathlib.Core.Path.{◌∙◌}
+use Rattle.places.proofs.Answered.{good_of, passed_on, ok_answered, exit_err}
 use Rattle.analysis.specs.Common.Entries.{verdict_of}
 use Rattle.analysis.specs.ByRule.{meets_answer}
 use Rattle.analysis.proofs.meets_choice.Goals as goal
 
-pub returns-then-number-ne0 : goal.returns-then-number-ne0
+pub returns-in_err-judge_choice_by : goal.returns-in_err-judge_choice_by
 unfolding meets_answer verdict_of
-returns-then-number-ne0 c =
-    let said = c.judge_choice_by-number.ensures in
-    rw (← said) (simp (ne_eqb _ 0 c.if-number-ne0.true))
+returns-in_err-judge_choice_by c = exit_err _ c.from_residual.ensures ∙ passed_on _ _ _ c.in_err-judge_choice_by.ensures
 
-pub meets-yes-requires : goal.meets-yes-requires
-meets-yes-requires c = sym c.judge_choice_by-number.ensures ∙ c.if-number-ne0.false
+pub meets-requires : goal.meets-requires
+meets-requires c = good_of _ _ c.in_ok-judge_choice_by.ensures
 
 pub returns : goal.returns
 unfolding meets_answer verdict_of
 returns c =
-    let good = sym c.judge_choice_by-number.ensures ∙ c.if-number-ne0.false in
-    simp (good, c.meets-yes.ensures)
+    let good = good_of _ _ c.in_ok-judge_choice_by.ensures in
+    ok_answered _ _ good (simp (good, c.meets.ensures))

@@ -1,7 +1,7 @@
 -- `analysis::time_of` meets its contract. Assumes nothing.
 use mathlib.Core.Path.{sym, ap, subst, ◌∙◌}
-use borrow.Author.Tests.{ne_eqb}
 use Rattle.places.proofs.Refusals.{none_of}
+use Rattle.places.proofs.Answered.{good_of, passed_as, ok_answered, exit_err}
 use Rattle.sheet.proofs.Cases.{place-below}
 use Rattle.analysis.specs.declared.Rule.{Rule}
 use Rattle.analysis.specs.Common.Allowed.{Within}
@@ -11,18 +11,17 @@ use Rattle.analysis.proofs.Laws.Common.Choice.{own-allowed}
 use Rattle.analysis.proofs.Laws.ByRule.{rule-good}
 use Rattle.analysis.proofs.time_of.Goals as goal
 
-pub returns-then-refusal-ne0 : goal.returns-then-refusal-ne0
+pub returns-in_err-judge_record_place : goal.returns-in_err-judge_record_place
 unfolding solution_of
-returns-then-refusal-ne0 c =
+returns-in_err-judge_record_place c =
     let given = c.args in
-    let said = c.judge_record_place-refusal.ensures ∙ ap (λ (r : Rule). place_refusal r given.table given.place) c.rule_of.ensures in
-    rw (← said) (simp (ne_eqb _ 0 c.if-refusal-ne0.true))
+    exit_err _ c.from_residual.ensures ∙ passed_as _ _ _ c.in_err-judge_record_place.ensures (ap (λ (r : Rule). place_refusal r given.table given.place) c.rule_of.ensures)
 
-pub time_under-time-requires : goal.time_under-time-requires
+pub time_under-requires : goal.time_under-requires
 unfolding place_refusal
-time_under-time-requires c =
+time_under-requires c =
     let table = c.args.table in
-    let fine = none_of (rule_refusal c.rule_of.result table) _ (sym c.judge_record_place-refusal.ensures ∙ c.if-refusal-ne0.false) in
+    let fine = none_of (rule_refusal c.rule_of.result table) _ (good_of _ _ c.in_ok-judge_record_place.ensures) in
     let good = rule-good _ table fine.0 in
     record {
       good = good;
@@ -34,6 +33,5 @@ pub returns : goal.returns
 unfolding solution_of
 returns c =
     let given = c.args in
-    let said = c.judge_record_place-refusal.ensures ∙ ap (λ (r : Rule). place_refusal r given.table given.place) c.rule_of.ensures in
-    let good = sym said ∙ c.if-refusal-ne0.false in
-    simp (good, c.time_under-time.ensures, c.own_choice.ensures)
+    let good = sym (ap (λ (r : Rule). place_refusal r given.table given.place) c.rule_of.ensures) ∙ good_of _ _ c.in_ok-judge_record_place.ensures in
+    ok_answered _ _ good (simp (good, c.time_under.ensures, c.own_choice.ensures))

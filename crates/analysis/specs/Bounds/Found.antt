@@ -2,7 +2,7 @@
 use Rattle.std.specs.Prelude.{ℕ, ◌*◌, ◌/◌, ◌%◌, cond, eqb, replicate}
 use Rattle.places.specs.Places.{filled_below}
 use Rattle.sheet.specs.declared.Table.{Table}
-use Rattle.analysis.specs.declared.Bounds.{Bounds}
+use Rattle.analysis.specs.Told.{Bounds}
 use Rattle.analysis.specs.declared.Rule.{Rule}
 use Rattle.analysis.specs.Common.Columns.{priorities_of, backups_of}
 use Rattle.analysis.specs.ByRule.{rule_refusal}

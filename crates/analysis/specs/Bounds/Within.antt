@@ -3,8 +3,7 @@ use Rattle.std.specs.Prelude.{ℕ, ◌+◌, ◌*◌, ◌<◌, ◌≡◌, Bool, c
 use Rattle.places.specs.Places.{some_below, most_below}
 use Rattle.places.specs.Refusals.{or_else}
 use Rattle.sheet.specs.Rules.{outside}
-use Rattle.analysis.specs.declared.Bounds.{Bounds}
-use Rattle.analysis.specs.declared.Verdict.{Verdict}
+use Rattle.analysis.specs.Told.{Bounds, Verdict}
 use Rattle.analysis.specs.declared.Rule.{Rule}
 use Rattle.analysis.specs.declared.Rule.TheVariants.{Published, Assured}
 use Rattle.analysis.specs.Common.Backups.{others, everyone}

@@ -1,5 +1,5 @@
 -- What the code computes with: the records held from the highest priority to the lowest, so that "above" is "before", and one demand for both equations. An inner device, tied to the equations by laws; no public promise cites it.
-use Rattle.std.specs.Prelude.{ℕ, ◌+◌, ◌-◌, ◌*◌, true, List, get_or}
+use Rattle.std.specs.Prelude.{ℕ, ◌+◌, ◌-◌, ◌*◌, true}
 use Rattle.places.specs.Places.{sum_below, most_below}
 use Rattle.analysis.specs.Common.Rounding.{up}
 use Rattle.analysis.specs.Common.Tasks.{Tasks}
@@ -13,10 +13,6 @@ pub record Demand : Type 0 where
   pub until : ℕ
   pub backup : ℕ
   pub paid : ℕ
-
--- the demand that five numbers are
-abbrev pub demand_in : List ℕ → Demand
-demand_in numbers = record { base = get_or numbers 0 0; rank = get_or numbers 1 0; until = get_or numbers 2 0; backup = get_or numbers 3 0; paid = get_or numbers 4 0 }
 
 -- the largest B among the records before a rank with q at or above the priority, or 0
 unfoldable pub largest_before : Tasks → ℕ → ℕ → ℕ

@@ -2,13 +2,12 @@
 use Rattle.std.specs.Prelude.{ℕ, Bool, true, false, cond, ◌||◌, eqb, ltb, pos, ◌-ℤ◌, replicate}
 use Rattle.places.specs.Places.{filled_below}
 use Rattle.sheet.specs.declared.Table.{Table}
-use Rattle.analysis.specs.declared.Verdict.{Verdict}
+use Rattle.analysis.specs.Told.{Verdict, Assessment}
 use Rattle.analysis.specs.declared.Outcome.{Outcome}
 use Rattle.analysis.specs.declared.Outcome.TheVariants.{OnTime, Late}
 use Rattle.analysis.specs.declared.Slack.{Slack}
 use Rattle.analysis.specs.declared.Slack.TheVariants.{Figure, NoFigure}
 use Rattle.analysis.specs.declared.Entry.{Entry}
-use Rattle.analysis.specs.declared.Assessment.{Assessment}
 use Rattle.analysis.specs.Common.Tasks.{Tasks, tasks_of, own_choice}
 
 -- late: there is no time within D

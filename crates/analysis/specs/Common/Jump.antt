@@ -1,7 +1,7 @@
 -- What a jump knows while it takes the terms of a demand one by one: what comes often is taken at its rate, what comes seldom as often as in the trial. An inner device; no public promise cites it.
 use Rattle.std.specs.Prelude.{ℕ, ◌+◌, ◌-◌, ◌*◌, ◌≤◌, ◌<◌, max, ◌≡◌, cond, leb, ltb}
 use Rattle.analysis.specs.declared.common.by_rank.Frame.{Frame}
-use Rattle.analysis.specs.declared.common.jump.Taken.{Taken}
+use Rattle.analysis.specs.declared.common.taken.Taken.{Taken}
 use Rattle.analysis.specs.Common.Rounding.{up}
 
 -- rates are counted in parts of 2^24

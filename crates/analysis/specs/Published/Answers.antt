@@ -5,10 +5,8 @@ use Rattle.places.specs.Refusals.{or_else}
 use Rattle.sheet.specs.declared.Table.{Table}
 use Rattle.sheet.specs.Rules.{table_refusal}
 use Rattle.analysis.specs.declared.Entry.{Entry}
-use Rattle.analysis.specs.declared.Timed.{Timed}
-use Rattle.analysis.specs.declared.Assessment.{Assessment}
-use Rattle.analysis.specs.declared.Interval.{Interval}
-use Rattle.analysis.specs.declared.Interval.TheVariants.{Refused, Least, Nothing}
+use Rattle.analysis.specs.Told.{Timed, Assessment, Interval}
+use Rattle.analysis.specs.Told.Interval.{Refused, Least, Nothing}
 use Rattle.analysis.specs.Common.Tasks.{Tasks, tasks_of, own_choice}
 use Rattle.analysis.specs.Published.Response.{response_time, passes}
 use Rattle.analysis.specs.Common.Entries.{assessed, entry_from, no_entry, own_tasks}

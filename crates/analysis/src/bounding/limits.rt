@@ -1,153 +1,107 @@
-// How large a backup each record bears, found once for a table by a few searches over its columns by rank.
-ghost use Rattle.std.specs.Prelude.{◌≡◌, cond, not, [], ◌≤◌, ◌<◌, ◌*◌, max, ◌+◌, ◌-◌, ◌/◌, ◌%◌, eqb, leb, get_or, replicate};
+// How large a backup each record bears, found once for a table by a few searches over its tasks by rank.
+ghost use Rattle.std.specs.Prelude.{◌≡◌, ℕ, cond, [], ◌≤◌, ◌*◌, max, ◌-◌, ◌/◌, ◌%◌, leb, replicate};
 ghost use Rattle.places.specs.Places.{most_below, filled_below};
 ghost use Rattle.sheet.specs.Rules.{table_refusal};
 ghost use Rattle.analysis.specs.Common.Search.{least_within};
 ghost use Rattle.analysis.specs.Bounds.Limits.{asked_with, bears, borne, limit_of, limit_at};
-ghost use Rattle.analysis.specs.Common.ByRank.{ranked, backup_in, ColumnsOf, InOrder};
+ghost use Rattle.analysis.specs.Common.ByRank.{frame_of, backup_in, ColumnsOf};
+ghost use Rattle.analysis.specs.Common.Lent.{tasks_in, asked_in};
 
-use crate::common::by_rank::Frame;
+use crate::Rule;
+use crate::common::search::Search;
+use crate::common::tasks::{Bearer, Ordered};
 use crate::common::{by_rank, load};
-use crate::published::times;
-use crate::{Rule, assured};
 use sheet::Table;
 
-// Whether the task at a rank has a time by the published equations within a limit, with a largest backup: as M where the fault priority is 0, else as N.
-fn published_met(
-    columns: &[u16; 32],
-    frame: Frame,
-    rank: usize,
-    fault: u8,
-    backup: u16,
-    limit: u64,
-) -> bool
-    requires order { InOrder (ranked columns.now frame []) }
-    requires below { rank < frame.count }
-    requires fits { fault + rank ≤ frame.count }
-    requires short { limit < 65536 }
-    ensures { result ≡ not (eqb (least_within (asked_with (ranked columns.now frame []) rank fault backup) 1 limit) 0) }
-{
-    if fault == 0 {
-        return times::elsewhere_met(columns, frame, rank, backup, limit);
+impl<'a> Bearer<'a> {
+    // The search for its time by the published equations, with a largest backup: as M where the fault priority is 0, else as N.
+    fn published(&self, backup: u16) -> Search<'a>
+        ensures { (limit : ℕ) → least_within (asked_in result) 1 limit ≡ least_within (asked_with (tasks_in self.now.tasks) self.now.rank self.now.fault backup) 1 limit }
+    {
+        if self.fault == 0 {
+            return self.elsewhere(backup);
+        }
+        self.itself(backup)
     }
-    times::itself_met(columns, frame, rank, fault, backup, limit)
+
+    // Whether it is on time with a largest backup under a rule.
+    pub fn bears(&self, backup: u16, rule: Rule) -> bool
+        ensures { result ≡ bears rule (tasks_in self.now.tasks) self.now.rank self.now.fault backup }
+    {
+        let limit = load::wide(self.tasks.columns[24 + self.rank]);
+        match rule {
+            Rule::Published => self.published(backup).reaches(limit),
+            Rule::Assured => self.assurance(backup).reaches(limit),
+        }
+    }
+
+    // The limit so far, or one more than a backup that is borne. A backup below the limit so far needs no search.
+    fn raised(&self, backup: u16, limit: u32, rule: Rule) -> u32
+        ensures { result ≡ max limit (borne (bears rule (tasks_in self.now.tasks) self.now.rank self.now.fault) backup) }
+    {
+        let next = load::half_wide(backup) + 1;
+        if next <= limit {
+            return limit;
+        }
+        if self.bears(backup, rule) {
+            return next;
+        }
+        limit
+    }
+
+    // Its limit: over each task's backup, and over none. The largest is tried first: where it is borne, none of the others needs a search.
+    fn limit(&self, largest: u16, rule: Rule) -> u32
+        requires { largest ≡ most_below (backup_in self.now.tasks.columns.now) self.now.tasks.frame.count }
+        ensures { result ≡ limit_of (bears rule (tasks_in self.now.tasks) self.now.rank self.now.fault) (backup_in self.now.tasks.columns.now) self.now.tasks.frame.count }
+    {
+        let mut most = self.raised(largest, 0, rule);
+        for other in 0..self.tasks.frame.count as usize {
+            most = self.raised(self.tasks.columns[16 + other], most, rule);
+        }
+        self.raised(0, most, rule)
+    }
 }
 
-// Whether the task at a rank is on time with a largest backup under a rule.
-pub fn bears(
-    columns: &[u16; 32],
-    frame: Frame,
-    rank: usize,
-    fault: u8,
-    backup: u16,
-    rule: Rule,
-) -> bool
-    requires order { InOrder (ranked columns.now frame []) }
-    requires below { rank < frame.count }
-    requires fits { fault + rank ≤ frame.count }
-    ensures { result ≡ bears rule (ranked columns.now frame []) rank fault backup }
-{
-    let limit = load::wide(columns[24 + rank]);
-    match rule {
-        Rule::Published => published_met(columns, frame, rank, fault, backup, limit),
-        Rule::Assured => assured::times::assured_met(columns, frame, rank, fault, backup, limit),
+impl Ordered<'_> {
+    // The largest backup of all tasks.
+    fn largest_backup(&self) -> u16
+        ensures { result ≡ most_below (backup_in self.now.columns.now) self.now.frame.count }
+    {
+        load::most(self.frame.count as usize, |rank| self.columns[16 + rank])
+    }
+
+    // The limit of the task of a priority, 0 past it.
+    fn limit_at(&self, priority: u8, fault: u8, largest: u16, rule: Rule) -> u32
+        requires some { 1 ≤ priority }
+        requires within { priority ≤ self.now.frame.count }
+        requires largest { largest ≡ most_below (backup_in self.now.columns.now) self.now.frame.count }
+        ensures { result ≡ cond (leb fault priority) (limit_of (bears rule (tasks_in self.now) (self.now.frame.count - priority) fault) (backup_in self.now.columns.now) self.now.frame.count) 0 }
+    {
+        if priority < fault {
+            return 0;
+        }
+        let bearer = Bearer {
+            tasks: *self,
+            rank: by_rank::rank_of(self.frame.count, priority),
+            fault,
+        };
+        bearer.limit(largest, rule)
     }
 }
 
-// The limit so far, or one more than a backup that is borne. A backup below the limit so far needs no search.
-fn raised(
-    columns: &[u16; 32],
-    frame: Frame,
-    rank: usize,
-    fault: u8,
-    backup: u16,
-    limit: u32,
-    rule: Rule,
-) -> u32
-    requires order { InOrder (ranked columns.now frame []) }
-    requires below { rank < frame.count }
-    requires fits { fault + rank ≤ frame.count }
-    ensures { result ≡ max limit (borne (bears rule (ranked columns.now frame []) rank fault) backup) }
-{
-    let next = load::half_wide(backup) + 1;
-    if next <= limit {
-        return limit;
-    }
-    if bears(columns, frame, rank, fault, backup, rule) {
-        return next;
-    }
-    limit
-}
-
-// The largest backup of all tasks.
-fn largest_backup(columns: &[u16; 32], count: u8) -> u16
-    requires few { count ≤ 8 }
-    ensures { result ≡ most_below (backup_in columns.now) count }
-{
-    let mut most: u16 = 0;
-    let mut rank: usize = 0;
-    while rank < count as usize {
-        most = load::larger(most, columns[16 + rank]);
-        rank += 1;
-    }
-    most
-}
-
-// The limit of the task at a rank: over each task's backup, and over none. The largest is tried first: where it is borne, none of the others needs a search.
-fn limit(columns: &[u16; 32], frame: Frame, rank: usize, fault: u8, largest: u16, rule: Rule) -> u32
-    requires order { InOrder (ranked columns.now frame []) }
-    requires below { rank < frame.count }
-    requires fits { fault + rank ≤ frame.count }
-    requires largest { largest ≡ most_below (backup_in columns.now) frame.count }
-    ensures { result ≡ limit_of (bears rule (ranked columns.now frame []) rank fault) (backup_in columns.now) frame.count }
-{
-    let count = frame.count as usize;
-    let mut most = raised(columns, frame, rank, fault, largest, 0, rule);
-    let mut other: usize = 0;
-    while other < count {
-        most = raised(columns, frame, rank, fault, columns[16 + other], most, rule);
-        other += 1;
-    }
-    raised(columns, frame, rank, fault, 0, most, rule)
-}
-
-// The limit of the task of a priority, 0 past it.
-fn limit_at(
-    columns: &[u16; 32],
-    frame: Frame,
-    priority: u8,
-    fault: u8,
-    largest: u16,
-    rule: Rule,
-) -> u32
-    requires order { InOrder (ranked columns.now frame []) }
-    requires some { 1 ≤ priority }
-    requires within { priority ≤ frame.count }
-    requires largest { largest ≡ most_below (backup_in columns.now) frame.count }
-    ensures { result ≡ cond (leb fault priority) (limit_of (bears rule (ranked columns.now frame []) (frame.count - priority) fault) (backup_in columns.now) frame.count) 0 }
-{
-    if priority < fault {
-        return 0;
-    }
-    let rank = by_rank::rank_of(frame.count, priority);
-    limit(columns, frame, rank, fault, largest, rule)
-}
-
-// Every limit of a good table under a rule, found over its columns.
-pub fn limits_in(table: Table, columns: &[u16; 32], rule: Rule) -> [u32; 72]
+// Every limit of a good table under a rule, found over its tasks.
+pub fn limits_in(table: Table, tasks: &Ordered<'_>, rule: Rule) -> [u32; 72]
     requires good { table_refusal table ≡ 0 }
-    requires filled { ColumnsOf table columns.now }
+    requires filled { ColumnsOf table tasks.now.columns.now }
+    requires framed { tasks.now.frame ≡ frame_of table table.interval }
     ensures { result ≡ filled_below (λ k. limit_at rule table (k / 9) (k % 9)) (9 * table.count) (replicate 72 0) }
 {
-    let frame = by_rank::frame_of(table);
-    let largest = largest_backup(columns, table.count);
+    let largest = tasks.largest_backup();
     let end = 9 * table.count as usize;
     let mut limits = [0u32; 72];
-    let mut at: usize = 0;
-    while at < end {
+    for at in 0..end {
         let priority = table.records[at / 9].priority;
-        limits[at] = limit_at(columns, frame, priority, (at % 9) as u8, largest, rule);
-        at += 1;
+        limits[at] = tasks.limit_at(priority, (at % 9) as u8, largest, rule);
     }
     limits
 }

@@ -22,10 +22,8 @@ pub fn own_choice(table: Table) -> [u8; 8]
     ensures { result ≡ own_choice table }
 {
     let mut choice = [0u8; 8];
-    let mut place: usize = 0;
-    while place < 8 {
+    for place in 0..8 {
         choice[place] = fault_at(table, place);
-        place += 1;
     }
     choice
 }
@@ -60,11 +58,8 @@ pub fn all_allowed(table: Table, choice: [u8; 8]) -> bool
     requires { table.count ≤ 8 }
     ensures { result ≡ all_allowed (priorities_of table) choice }
 {
-    let mut place: usize = 0;
-    while place < 8 {
-        if is_allowed(priority_at(table, place), choice[place]) {
-            place += 1;
-        } else {
+    for place in 0..8 {
+        if !is_allowed(priority_at(table, place), choice[place]) {
             return false;
         }
     }

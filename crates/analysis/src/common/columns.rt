@@ -15,11 +15,9 @@ pub fn columns_of(table: Table) -> Columns
     let records = table.records;
     let mut priorities = [0u8; 8];
     let mut backups = [0u16; 8];
-    let mut place: usize = 0;
-    while place < count {
+    for place in 0..count {
         priorities[place] = records[place].priority;
         backups[place] = records[place].backup;
-        place += 1;
     }
     Columns {
         priorities,

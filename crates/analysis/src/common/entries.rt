@@ -1,9 +1,9 @@
-// What an entry says of a time, and the answer of a refused call.
+// What an entry says of a time.
 ghost use Rattle.std.specs.Prelude.{◌≡◌, ◌<◌, true};
 ghost use Rattle.analysis.specs.Published.Response.{passes};
-ghost use Rattle.analysis.specs.Common.Entries.{outcome_of, says_late, slack_of, entry_from, no_entry, untimed};
+ghost use Rattle.analysis.specs.Common.Entries.{outcome_of, says_late, slack_of, entry_from, no_entry};
 
-use crate::{Assessment, Entry, Outcome, Slack};
+use crate::{Entry, Outcome, Slack};
 
 // A time, 0 for none, as an outcome.
 fn outcome(deadline: u16, time: u16) -> Outcome
@@ -39,7 +39,7 @@ pub fn entry(deadline: u16, time: u16) -> Entry
     }
 }
 
-// The entry of a refused call and of a place past the count.
+// The entry of a place past the count.
 pub fn no_entry() -> Entry
     ensures { result ≡ no_entry }
 {
@@ -47,17 +47,6 @@ pub fn no_entry() -> Entry
         deadline: 0,
         outcome: Outcome::OnTime(0),
         slack: Slack::Figure(0),
-    }
-}
-
-// The answer of a refused call.
-pub fn no_times(refusal: u8) -> Assessment
-    ensures { result ≡ untimed refusal }
-{
-    Assessment {
-        refusal,
-        entries: [no_entry(); 8],
-        passes: false,
     }
 }
 

@@ -9,6 +9,3 @@ use Rattle.assured.proofs.assured_times.Given as goal
 
 abbrev pub invariant-loop-place : goal.invariant-loop-place
 invariant-loop-place l = (l.place ≤ 8) × (l.entries ≡ filled_below (λ k. without_slack (get_or l.assessment.entries k no_whole)) l.place (replicate 8 no_entry))
-
-abbrev pub decreases-loop-place : goal.decreases-loop-place
-decreases-loop-place l = 8 - l.place

@@ -1,12 +1,11 @@
 -- `cells::name_of` meets its contract. Assumes nothing.
 use Rattle.cells.specs.Names.{name_of}
-use borrow.Author.Tests.{eq-eqb, ne_eqb}
 use Rattle.cells.proofs.name_of.Goals as goal
 
-pub returns-then-quotes_refusal-ne0 : goal.returns-then-quotes_refusal-ne0
+pub returns-then-not-is_well_quoted : goal.returns-then-not-is_well_quoted
 unfolding name_of
-returns-then-quotes_refusal-ne0 c = simp (← c.quotes_refusal.ensures, ne_eqb _ 0 c.if-quotes_refusal-ne0.true, ← c.misspelt.ensures) c.named_by.ensures
+returns-then-not-is_well_quoted c = simp (← c.is_well_quoted.ensures, c.if-not-is_well_quoted.true, ← c.misspelt.ensures) c.from.ensures
 
 pub returns : goal.returns
 unfolding name_of
-returns c = simp (← c.quotes_refusal.ensures, eq-eqb _ 0 c.if-quotes_refusal-ne0.false, ← c.is_quoted-quoted.ensures, ← c.content_of.ensures, ← c.spelled.ensures) c.named_by-2.ensures
+returns c = simp (← c.is_well_quoted.ensures, c.if-not-is_well_quoted.false, ← c.is_quoted-quoted.ensures, ← c.content_of.ensures, ← c.spelled.ensures) c.from-2.ensures

@@ -1,10 +1,16 @@
 -- `fidhaqooban::fq_response` meets its contract. Assumes nothing.
-use mathlib.Core.Path.{ap, ◌∙◌}
-use Rattle.fidhaqooban.specs.Numbers.{answer_of}
+use mathlib.Core.Path.{refl, ap, ◌∙◌}
+use Rattle.analysis.specs.declared.Entry.{Entry}
+use Rattle.analysis.specs.declared.Rule.TheVariants.{Published}
+use Rattle.fidhaqooban.specs.Numbers.{answer_of, time_of}
 use Rattle.fidhaqooban.proofs.Minus.{handed}
-use Rattle.fidhaqooban.proofs.Answered.{response-is}
+use Rattle.fidhaqooban.proofs.Answered.{ok-number, err-number, timed-known, response-is}
 use Rattle.fidhaqooban.proofs.fq_response.Goals as goal
 
-pub returns : goal.returns
-returns c =
-    handed c.answer.result c.answer.type_inv ∙ c.answer.ensures ∙ ap (answer_of c.time_in-timed.result.refusal) c.time_of.ensures.answer ∙ response-is _ _ _ c.time_in-timed.ensures
+pub returns-in-Ok : goal.returns-in-Ok
+returns-in-Ok c =
+    handed c.answer.result c.answer.type_inv ∙ c.answer.ensures ∙ ap (answer_of 0) c.time_of.ensures.answer ∙ ok-number _ _ c.in-Ok.ensures (λ (e : Entry). time_of e.outcome) ∙ response-is _ _ _ refl
+
+pub returns-in-Err : goal.returns-in-Err
+returns-in-Err c =
+    handed c.refused.result c.refused.type_inv ∙ c.refused.ensures ∙ err-number _ _ (timed-known Published c.args.sheet.now c.args.place) c.in-Err.ensures _ ∙ response-is _ _ _ refl

@@ -11,12 +11,12 @@ use Rattle.fidhaqooban.proofs.Minus.{handed}
 use Rattle.fidhaqooban.proofs.Written.{written-room, write-is}
 use Rattle.fidhaqooban.proofs.fq_write_shared.Goals as goal
 
-pub answer-requires : goal.answer-requires
+pub number-requires : goal.number-requires
 unfolding given_table table_from table_size size_of
-answer-requires c =
+number-requires c =
     let table = c.table.ensures in
-    let written = c.table.result in
-    omega (arith, written-room _ _ _ c.write-writing.ensures.answer, ap (λ (t : Table). t.count) table, edition-low written.round written.share)
+    let given = c.table.result in
+    written-room _ _ (omega (arith, ap (λ (t : Table). t.count) table, edition-low given.round given.share)) _ c.write-writing.ensures.answer
 
 pub returns : goal.returns
 unfolding write_shared_number write_shared_left given_table table_from
@@ -25,6 +25,6 @@ returns c =
     let table = c.table.ensures in
     let out = c.args.out.now in
     record {
-      answer = handed c.answer.result c.answer.type_inv ∙ c.answer.ensures ∙ write-is _ _ _ known.answer ∙ ap (λ (t : Table). answer_of (write_refusal t out) (table_size t)) table;
+      answer = handed c.number.result c.number.type_inv ∙ c.number.ensures ∙ write-is _ _ _ known.answer ∙ ap (λ (t : Table). answer_of (write_refusal t out) (table_size t)) table;
       left = known.leaves ∙ ap (λ (t : Table). write_leaves t out) table;
     }

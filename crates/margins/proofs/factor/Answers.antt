@@ -1,23 +1,20 @@
 -- `margins::factor` meets its contract. Assumes nothing.
-use mathlib.Core.Path.{sym, ap₂, ◌∙◌}
-use borrow.Author.Tests.{ne_eqb}
-use Rattle.margins.specs.Answers.{furthest_of, factor_answer}
+use mathlib.Core.Path.{sym, ◌∙◌}
+use Rattle.places.proofs.Answered.{good_of, passed_on, ok_answered, exit_err}
+use Rattle.margins.specs.Answers.{factor_answer}
+use Rattle.margins.proofs.Stepped.{furthest-answered}
 use Rattle.margins.proofs.factor.Goals as goal
 
-pub returns-then-refusal-ne0 : goal.returns-then-refusal-ne0
-unfolding factor_answer furthest_of
-returns-then-refusal-ne0 c =
-    let said = c.judge_rule-refusal.ensures in
-    rw (← said) (simp (ne_eqb _ 0 c.if-refusal-ne0.true))
+pub returns-in_err-judge_rule : goal.returns-in_err-judge_rule
+unfolding factor_answer
+returns-in_err-judge_rule c = exit_err _ c.from_residual.ensures ∙ passed_on _ _ _ c.in_err-judge_rule.ensures ∙ sym (furthest-answered _ _)
 
-pub found-found-requires : goal.found-found-requires
-found-found-requires c = record {
-  good = sym c.judge_rule-refusal.ensures ∙ c.if-refusal-ne0.false;
+pub found-requires : goal.found-requires
+found-requires c = record {
+  good = good_of _ _ c.in_ok-judge_rule.ensures;
   placed = tt;
 }
 
 pub returns : goal.returns
 unfolding factor_answer
-returns c =
-    let good = sym c.judge_rule-refusal.ensures ∙ c.if-refusal-ne0.false in
-    c.answer.ensures ∙ ap₂ furthest_of (sym good) c.found-found.ensures
+returns c = ok_answered _ _ (good_of _ _ c.in_ok-judge_rule.ensures) c.found.ensures ∙ sym (furthest-answered _ _)

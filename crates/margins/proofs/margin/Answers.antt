@@ -1,23 +1,22 @@
 -- `margins::margin` meets its contract. Assumes nothing.
-use mathlib.Core.Path.{sym, ap₂, ◌∙◌}
-use borrow.Author.Tests.{ne_eqb}
+use mathlib.Core.Path.{sym, ◌∙◌}
+use Rattle.places.proofs.Answered.{good_of, passed_on, ok_answered, exit_err}
 use Rattle.places.proofs.Refusals.{none_of}
 use Rattle.sheet.proofs.Cases.{place-below}
 use Rattle.analysis.specs.ByRule.{place_refusal, rule_refusal}
-use Rattle.margins.specs.Answers.{furthest_of, margin_answer}
+use Rattle.margins.specs.Answers.{margin_answer}
+use Rattle.margins.proofs.Stepped.{furthest-answered}
 use Rattle.margins.proofs.margin.Goals as goal
 
-pub returns-then-refusal-ne0 : goal.returns-then-refusal-ne0
-unfolding margin_answer furthest_of
-returns-then-refusal-ne0 c =
-    let said = c.judge_place-refusal.ensures in
-    rw (← said) (simp (ne_eqb _ 0 c.if-refusal-ne0.true))
+pub returns-in_err-judge_place : goal.returns-in_err-judge_place
+unfolding margin_answer
+returns-in_err-judge_place c = exit_err _ c.from_residual.ensures ∙ passed_on _ _ _ c.in_err-judge_place.ensures ∙ sym (furthest-answered _ _)
 
-pub found-found-requires : goal.found-found-requires
+pub found-requires : goal.found-requires
 unfolding place_refusal
-found-found-requires c =
+found-requires c =
     let args = c.args in
-    let both = none_of (rule_refusal args.rule args.table) _ (sym c.judge_place-refusal.ensures ∙ c.if-refusal-ne0.false) in
+    let both = none_of (rule_refusal args.rule args.table) _ (good_of _ _ c.in_ok-judge_place.ensures) in
     record {
       good = both.0;
       placed = place-below args.place args.table.count both.1;
@@ -25,6 +24,4 @@ found-found-requires c =
 
 pub returns : goal.returns
 unfolding margin_answer
-returns c =
-    let good = sym c.judge_place-refusal.ensures ∙ c.if-refusal-ne0.false in
-    c.answer.ensures ∙ ap₂ furthest_of (sym good) c.found-found.ensures
+returns c = ok_answered _ _ (good_of _ _ c.in_ok-judge_place.ensures) c.found.ensures ∙ sym (furthest-answered _ _)

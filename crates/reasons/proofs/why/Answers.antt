@@ -1,41 +1,44 @@
 -- `reasons::why` meets its contract. Assumes nothing.
-use Prim.Native.Nat.{ℕ}
-use mathlib.Core.Path.{sym, ap, ap₂, ◌∙◌}
+use Prim.Native.Nat.{ℕ, ◌≤◌}
+use mathlib.Core.Path.{sym, ap, subst, ◌∙◌}
+use Rattle.std.specs.Prelude.{IfSome, unwrap_or}
+use Rattle.places.proofs.Answered.{good_of, value_of, passed_as, ok_answered, exit_err}
 use Rattle.places.proofs.Refusals.{none_of}
 use Rattle.sheet.proofs.Cases.{place-below}
-use Rattle.analysis.specs.declared.Equation.{Equation}
 use Rattle.analysis.specs.Common.Entries.{own_tasks}
 use Rattle.analysis.specs.ByRule.{rule_refusal, place_refusal}
 use Rattle.analysis.specs.ByEquation.{time_of}
 use Rattle.analysis.proofs.Laws.ByRule.{rule-good}
-use Rattle.reasons.specs.Answers.{explained, no_reason}
-use Rattle.reasons.proofs.Demands.{reason-refused, reason-given}
+use Rattle.reasons.specs.declared.deciding.Decided.{Decided}
+use Rattle.reasons.specs.Told.{Reason, reason_told}
+use Rattle.reasons.specs.Deciding.{decides, decided_of}
+use Rattle.reasons.specs.Answers.{explained}
+use Rattle.reasons.proofs.Longer.{some-told, some-kept}
+use Rattle.reasons.proofs.Demands.{reason-given, reason-refusal}
 use Rattle.reasons.proofs.why.Goals as goal
 
-pub returns-then-decided-ne0 : goal.returns-then-decided-ne0
-returns-then-decided-ne0 c =
-    let given = c.args in
-    let known = c.decide-decided.ensures in
-    let refused = c.if-decided-ne0.true in
-    c.none.ensures ∙ ap no_reason known.refusal ∙ sym (reason-refused given.rule given.table given.place (λ z. refused (known.refusal ∙ z)))
+pub returns-in_err-decided : goal.returns-in_err-decided
+returns-in_err-decided c = exit_err _ c.from_residual.ensures ∙ passed_as _ _ _ c.in_err-decided.ensures (sym (reason-refusal _ _ _))
 
 pub explain-requires : goal.explain-requires
-unfolding place_refusal
+unfolding place_refusal decided_of
 explain-requires c =
     let given = c.args in
-    let fine = none_of (rule_refusal given.rule given.table) _ (sym c.decide-decided.ensures.refusal ∙ c.if-decided-ne0.false) in
+    let fine = none_of (rule_refusal given.rule given.table) _ (good_of _ _ c.in_ok-decided.ensures) in
     record {
       good = rule-good given.rule given.table fine.0;
       here = place-below given.place given.table.count fine.1;
+      some = subst (λ (d : Decided). IfSome d.time (λ n. 1 ≤ n)) (sym (value_of _ _ c.in_ok-decided.ensures)) (some-kept _);
     }
 
 pub returns : goal.returns
+unfolding decided_of
 returns c =
     let given = c.args in
-    let known = c.decide-decided.ensures in
-    let good = c.if-decided-ne0.false in
-    let s = own_tasks given.table in
-    let equation = known.equation good in
-    c.explain.ensures
-    ∙ ap₂ (λ (e : Equation) (n : ℕ). explained e n given.table given.place) equation (known.time good ∙ ap (λ (e : Equation). time_of e s given.place) equation)
-    ∙ sym (reason-given given.rule given.table given.place (sym known.refusal ∙ good))
+    let good = good_of _ _ c.in_ok-decided.ensures in
+    let equation = decides given.rule (own_tasks given.table) given.place in
+    let reason = c.explain.ensures
+    ∙ ap (λ (d : Decided). reason_told (explained d.equation (unwrap_or d.time 0) given.table given.place)) (value_of _ _ c.in_ok-decided.ensures)
+    ∙ ap (λ (n : ℕ). reason_told (explained equation n given.table given.place)) (some-told (time_of equation (own_tasks given.table) given.place))
+    ∙ sym (ap (λ (r : Reason). reason_told r) (reason-given given.rule given.table given.place good)) in
+    ok_answered _ _ (reason-refusal _ _ _ ∙ good) reason

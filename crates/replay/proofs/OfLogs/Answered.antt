@@ -2,11 +2,16 @@
 use Rattle.std.proofs.Common.{◌≡◌, ℕ, ◌%◌, Bool, true, false, cond, eqb, List, length, sym, refl, ap, ◌∙◌, eq-eqb, ne_eqb}
 use Rattle.places.specs.Places.{one_if, count_below}
 use Rattle.places.proofs.Refusals.{next-of}
-use Rattle.sheet.specs.declared.Reading.{Reading}
+use Rattle.std.specs.Prelude.{Ok, Err}
+use Rattle.places.specs.declared.refusal.Refusal.{Refusal}
+use Rattle.places.specs.Answered.{number_of}
+use Rattle.places.specs.Answered as said
+use Rattle.places.proofs.Answered.{broken_of, told_number}
+use Rattle.sheet.specs.declared.Table.{Table}
 use Rattle.sheet.specs.Layout.{table_of}
 use Rattle.sheet.specs.Rules.{whole_sheet_refusal}
 use Rattle.sheet.specs.Answers.{whole_answer}
-use Rattle.sheet.proofs.Whole.{whole-refusal, whole-table}
+use Rattle.sheet.proofs.Told.{whole-told, whole-known}
 use Rattle.replay.specs.declared.Counts.{Counts}
 use Rattle.replay.specs.declared.Machine.{Machine}
 use Rattle.replay.specs.declared.Run.{Run}
@@ -19,18 +24,18 @@ use Rattle.replay.specs.Logs.Shown.{log_in, supplied_refusal}
 use Rattle.replay.specs.Logs.Answers.{start_answer, go_on_answer, replay_refusal, replay_answer}
 use Rattle.replay.proofs.OfTicks.Ready.{started-tied, none-tied, tied-same}
 
-module _ (sheet : List ℕ) (reading : Reading) (read : reading ≡ whole_answer sheet) where
-  pub start-refused : (none : Machine) → (reading.refusal ≡ 0 → ⊥) → none ≡ no_machine → record { refusal = reading.refusal; machine = none } ≡ start_answer sheet
-  unfolding start_answer
-  start-refused none broken e =
-      let said = whole-refusal sheet reading read in
-      simp (said, ne_eqb (whole_sheet_refusal sheet) 0 (λ z. broken (said ∙ z)), e)
+module _ (sheet : List ℕ) where
+  pub start-refused : {e : Refusal} {number : ℕ} (none : Machine) → Err e ≡ said.answered (whole_answer sheet).refusal (whole_answer sheet).table → number ≡ number_of e → none ≡ no_machine
+      → record { refusal = number; machine = none } ≡ start_answer sheet
+  unfolding start_answer whole_answer
+  start-refused none read is e =
+      simp (is ∙ told_number _ _ (whole-known sheet) read, ne_eqb (whole_sheet_refusal sheet) 0 (broken_of _ _ read), e)
 
-  pub start-passed : (m : Machine) → reading.refusal ≡ 0 → m ≡ machine_of reading.table → record { refusal = 0; machine = m } ≡ start_answer sheet
+  pub start-passed : {table : Table} (m : Machine) → Ok table ≡ said.answered (whole_answer sheet).refusal (whole_answer sheet).table → m ≡ machine_of table → record { refusal = 0; machine = m } ≡ start_answer sheet
   unfolding start_answer
-  start-passed m passed e =
-      let good : whole_sheet_refusal sheet ≡ 0 = sym (whole-refusal sheet reading read) ∙ passed in
-      simp (good, e ∙ ap machine_of (whole-table sheet reading read good))
+  start-passed m read e =
+      let told = whole-told sheet read in
+      simp (told.0, e ∙ ap machine_of told.1)
 
 -- every machine that is started keeps its ready priorities
 pub start-tied : (sheet : List ℕ) → IsTied (start_answer sheet).machine

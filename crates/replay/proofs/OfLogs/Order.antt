@@ -1,15 +1,15 @@
 -- The refusals of a log and of a replay are given in the requests' order, a log's by the rules read over positions in it. Assumes nothing.
-use Rattle.std.proofs.Common.{◌≡◌, ℕ, zero, suc, ◌+◌, ◌/◌, ◌%◌, ◌^◌, ◌<◌, ◌≤◌, Bool, true, false, cond, eqb, ◌⊎◌, List, [], ◌∷◌, ◌++◌, length, refl, inl, inr, div-lt_iff_lt-mul, one-mul, le-div_iff_mul-le, arith, pow_pos, shr-shr, eq-eqb}
+use Rattle.std.proofs.Common.{◌≡◌, ℕ, zero, suc, ◌+◌, ◌/◌, ◌%◌, ◌^◌, ◌<◌, ◌≤◌, true, false, eqb, ◌⊎◌, List, ◌∷◌, ◌++◌, length, refl, inl, inr, div-lt_iff_lt-mul, one-mul, le-div_iff_mul-le, arith, pow_pos, shr-shr, eq-eqb}
 use native.Mathlib.Decide.{ℕ_discrete}
 use borrow.Author.Tests.{eqb-false, not-true}
 use lib.Count.{leading_top}
 use Rattle.places.specs.Places.{joined_below}
 use Rattle.places.specs.Refusals.{or_else, Row, row, InOrder}
-use Rattle.places.proofs.Tells.{Tells, holds, fails, tells, or-tells, and-tells, not-tells, eqb_tells}
+use Rattle.places.proofs.Tells.{Tells, fails, tells, or-tells, not-tells, eqb_tells}
 use Rattle.places.proofs.Some.{some-tells-below}
-use Rattle.places.proofs.Order.{Says, none, first, says_none, says_row, says-wider, says-joined, says-below, in_order}
+use Rattle.places.proofs.Order.{Says, first, says_none, says_row, says-wider, says-joined, says-below, in_order}
 use Rattle.sheet.specs.Layout.{record_at}
-use Rattle.sheet.specs.Broken.{whole_rows, WholeNumber}
+use Rattle.sheet.specs.Broken.{whole_rows}
 use Rattle.sheet.specs.Rules.{whole_sheet_refusal}
 use Rattle.sheet.proofs.Order.{whole-positive, whole_says}
 use Rattle.replay.specs.declared.Machine.{Machine}

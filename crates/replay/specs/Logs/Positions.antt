@@ -1,5 +1,5 @@
 -- The rules of a log said over its ticks, counted from 0, by what the log itself marks: no machine and no countdown; and those of a replay, row by row in the order they are tried. A second reading, which the refusals are proved to follow; no public promise cites it.
-use Rattle.std.specs.Prelude.{◌≡◌, ℕ, ◌+◌, ◌*◌, ◌/◌, ◌%◌, ◌<◌, ◌≤◌, Bool, true, ◌⊎◌, List, [], ◌∷◌, ◌++◌, length, ◌≢◌, slice_index}
+use Rattle.std.specs.Prelude.{◌≡◌, ℕ, ◌+◌, ◌*◌, ◌/◌, ◌%◌, ◌<◌, ◌≤◌, Bool, true, ◌⊎◌, List, [], ◌∷◌, length, ◌≢◌, slice_index}
 use Rattle.places.specs.Places.{joined_below}
 use Rattle.places.specs.Refusals.{Row, row}
 use Rattle.sheet.specs.declared.Record.{Record}

@@ -1,14 +1,15 @@
 // The ticks of a log or of a record one after the other, the cells held as columns: the one loop over ticks.
-ghost use Rattle.std.specs.Prelude.{◌≡◌, ℕ, ◌+◌, ◌-◌, ◌%◌, ◌≤◌, not, ◌&&◌, List, length, if◌then◌else◌, ◌==◌, slice_index};
+ghost use Rattle.std.specs.Prelude.{◌≡◌, ◌+◌, ◌-◌, ◌%◌, ◌≤◌, not, ◌&&◌, List, length, if◌then◌else◌, ◌==◌, slice_index};
 ghost use Rattle.replay.specs.declared.Cell.{Cell};
-ghost use Rattle.replay.specs.Ticks.Columns.{cells_in, OfEight};
+ghost use Rattle.replay.specs.Ticks.Columns.{cells_shown};
 ghost use Rattle.replay.specs.Ticks.Counts.{cell_of};
 ghost use Rattle.replay.specs.Ticks.Machines.{IsTied};
 ghost use Rattle.replay.specs.Logs.Pieces.{holding, running, differs_with, ticked, followed};
 ghost use Rattle.replay.specs.Logs.Held.{held_in, KeepsRunner};
 
 use crate::logs::rules;
-use crate::ticks::{bits, columns, counting, phases, ticking};
+use crate::ticks::columns::Columns;
+use crate::ticks::{bits, counting, phases, ticking};
 use crate::{Cell, Following, Tally};
 
 // What the ticks so far have changed beside the cells: the first refusal of a tick, or 0; the ticks that showed what they must, and
@@ -34,39 +35,29 @@ pub struct Tick {
 }
 
 // Whether a tick of a record shows another byte than it must; one of a log shows none.
-fn is_other(is_record: bool, ran: u8, backups: &[u16; 8], priority: u8) -> bool
+fn is_other(is_record: bool, ran: u8, columns: &Columns, priority: u8) -> bool
     requires { priority ≤ 8 }
-    ensures { (left rest wait : List ℕ) → result ≡ (is_record && not (ran == priority + (if (cell_of (cells_in left rest wait backups.now) priority).is_backup then 128 else 0))) }
+    ensures { result ≡ (is_record && not (ran == priority + (if (cell_of (cells_shown columns.now) priority).is_backup then 128 else 0))) }
 {
-    is_record & (ran != columns::shown(backups, priority))
+    is_record & (ran != columns.shown(priority))
 }
 
 // After a tick that breaks no rule: releases come in, a job runs, and the tick ends.
-fn run(
-    following: Following,
-    left: &mut [u16; 8],
-    rest: &mut [u16; 8],
-    wait: &mut [u16; 8],
-    backups: &mut [u16; 8],
-    headway: Headway,
-    tick: Tick,
-) -> Headway
-    requires kept { KeepsRunner following (cells_in left.old rest.old wait.old backups.old) headway }
-    requires room { OfEight left.old rest.old wait.old backups.old }
-    ensures run { held_in following (cells_in left.new rest.new wait.new backups.new) result ≡ running (held_in following (cells_in left.old rest.old wait.old backups.old) headway) tick.releases tick.faults (differs_with (held_in following (cells_in left.old rest.old wait.old backups.old) headway) tick.releases tick.ran) }
-    ensures kept { KeepsRunner following (cells_in left.new rest.new wait.new backups.new) result }
-    ensures room { OfEight left.new rest.new wait.new backups.new }
+fn run(following: Following, columns: &mut Columns, headway: Headway, tick: Tick) -> Headway
+    requires { KeepsRunner following (cells_shown columns.old) headway }
+    ensures run { held_in following (cells_shown columns.new) result ≡ running (held_in following (cells_shown columns.old) headway) tick.releases tick.faults (differs_with (held_in following (cells_shown columns.old) headway) tick.releases tick.ran) }
+    ensures kept { KeepsRunner following (cells_shown columns.new) result }
 {
     let machine = following.machine;
     let tasks = machine.tasks;
     let releases = tick.releases;
-    columns::enter(tasks, left, rest, wait, backups, releases);
+    columns.enter(tasks, releases);
     let last = headway.priority;
     let is_new = headway.has_changed | (releases != 0);
-    let runs = columns::kept_runner(last, is_new, tasks, left, rest, wait, backups);
-    let differs = headway.differs | is_other(following.is_record, tick.ran, backups, runs);
+    let runs = columns.kept_runner(last, is_new, tasks);
+    let differs = headway.differs | is_other(following.is_record, tick.ran, columns, runs);
     let is_struck = bits::is_marked(tick.faults);
-    let more = columns::step(tasks, left, rest, wait, backups, releases, runs, is_struck);
+    let more = columns.step(tasks, releases, runs, is_struck);
     let tally = headway.tally;
     Headway {
         broken: headway.broken,
@@ -80,25 +71,15 @@ fn run(
 }
 
 // After one tick more: it is judged, then compared and run.
-fn turn(
-    following: Following,
-    left: &mut [u16; 8],
-    rest: &mut [u16; 8],
-    wait: &mut [u16; 8],
-    backups: &mut [u16; 8],
-    mut headway: Headway,
-    tick: Tick,
-) -> Headway
+fn turn(following: Following, columns: &mut Columns, mut headway: Headway, tick: Tick) -> Headway
     requires good { following.start ≡ 0 }
     requires free { headway.broken ≡ 0 }
-    requires kept { KeepsRunner following (cells_in left.old rest.old wait.old backups.old) headway }
-    requires room { OfEight left.old rest.old wait.old backups.old }
-    ensures turn { held_in following (cells_in left.new rest.new wait.new backups.new) result ≡ ticked (held_in following (cells_in left.old rest.old wait.old backups.old) headway) tick.releases tick.faults tick.ran }
-    ensures kept { KeepsRunner following (cells_in left.new rest.new wait.new backups.new) result }
-    ensures room { OfEight left.new rest.new wait.new backups.new }
+    requires kept { KeepsRunner following (cells_shown columns.old) headway }
+    ensures turn { held_in following (cells_shown columns.new) result ≡ ticked (held_in following (cells_shown columns.old) headway) tick.releases tick.faults tick.ran }
+    ensures kept { KeepsRunner following (cells_shown columns.new) result }
 {
     let machine = following.machine;
-    let is_early = rules::some_early_in(left, rest, wait, backups, tick.releases);
+    let is_early = rules::some_early(columns, tick.releases);
     let refusal = rules::judge(
         machine.count,
         headway.gap,
@@ -110,7 +91,7 @@ fn turn(
         headway.broken = refusal;
         return headway;
     }
-    run(following, left, rest, wait, backups, headway, tick)
+    run(following, columns, headway, tick)
 }
 
 // Before the first tick.
@@ -173,29 +154,13 @@ pub fn go_over(following: Following, bytes: &[u8], width: usize) -> Following
 {
     let machine = following.machine;
     let cells = machine.cells;
-    let mut left = [0u16; 8];
-    let mut rest = [0u16; 8];
-    let mut wait = [0u16; 8];
-    let mut backups = [0u16; 8];
-    columns::spread(cells, &mut left, &mut rest, &mut wait, &mut backups);
+    let mut columns = Columns::of(cells);
     let mut headway = headway_of(following);
     let mut at: usize = 0;
     while (following.start == 0) & (headway.broken == 0) & (width <= bytes.len() - at) {
         let tick = tick_at(bytes, at, width);
-        headway = turn(
-            following,
-            &mut left,
-            &mut rest,
-            &mut wait,
-            &mut backups,
-            headway,
-            tick,
-        );
+        headway = turn(following, &mut columns, headway, tick);
         at += width;
     }
-    kept(
-        following,
-        columns::cells_of(&left, &rest, &wait, &backups),
-        headway,
-    )
+    kept(following, columns.cells(), headway)
 }

@@ -1,11 +1,12 @@
 // The rules that each tick of a log is judged by: 15, 16, 17, in that order.
 ghost use Rattle.std.specs.Prelude.{◌≡◌, ◌<◌, cond, if◌then◌else◌};
 ghost use Rattle.replay.specs.Ticks.Cells.{cell_at};
-ghost use Rattle.replay.specs.Ticks.Columns.{cells_in};
+ghost use Rattle.replay.specs.Ticks.Columns.{cells_shown};
 ghost use Rattle.replay.specs.Logs.Rules.{is_strange, is_early, some_early, is_hasty};
 
 use crate::Cell;
-use crate::ticks::{bits, columns};
+use crate::ticks::bits;
+use crate::ticks::columns::Columns;
 
 // Whether a slot is released that has to wait.
 fn is_early(releases: u8, slot: usize, cell: Cell) -> bool
@@ -16,22 +17,6 @@ fn is_early(releases: u8, slot: usize, cell: Cell) -> bool
         return cell.wait != 0;
     }
     false
-}
-
-// Whether some task is released sooner than its period after its last release.
-fn some_early(cells: [Cell; 8], releases: u8) -> bool
-    ensures { result ≡ some_early releases (cell_at cells) }
-{
-    if releases == 0 {
-        return false;
-    }
-    let mut found = false;
-    let mut slot: usize = 0;
-    while slot < 8 {
-        found = found | is_early(releases, slot, cells[slot]);
-        slot += 1;
-    }
-    found
 }
 
 // Whether one of the bits is set that are to be zero.
@@ -48,20 +33,15 @@ fn is_hasty(gap: u16, faults: u8) -> bool
     bits::is_marked(faults) & (gap != 0)
 }
 
-// Whether some task is released too soon, by the columns of the cells.
-pub fn some_early_in(
-    left: &[u16; 8],
-    rest: &[u16; 8],
-    wait: &[u16; 8],
-    backups: &[u16; 8],
-    releases: u8,
-) -> bool
-    ensures { result ≡ some_early releases (cell_at (cells_in left.now rest.now wait.now backups.now)) }
+// Whether some task is released sooner than its period after its last release. In most ticks none is.
+pub fn some_early(columns: &Columns, releases: u8) -> bool
+    ensures { result ≡ some_early releases (cell_at (cells_shown columns.now)) }
 {
     if releases == 0 {
         return false;
     }
-    some_early(columns::cells_of(left, rest, wait, backups), releases)
+    let cells = columns.cells();
+    (0..8).any(|slot| is_early(releases, slot, cells[slot]))
 }
 
 // The first rule that a tick breaks, or 0, given whether it releases a task too soon.

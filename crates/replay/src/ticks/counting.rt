@@ -18,13 +18,8 @@ pub fn one_if(holds: bool) -> u64
 pub fn unfinished(cells: [Cell; 8]) -> u64
     ensures { result ≡ unfinished_in cells }
 {
-    let mut jobs: u64 = 0;
-    let mut slot: usize = 0;
-    while slot < 8 {
-        jobs += one_if(ready::is_ready(cells[slot]));
-        slot += 1;
-    }
-    jobs
+    let ready = cells.iter().filter(|cell| ready::is_ready(**cell));
+    ready.count() as u64
 }
 
 // What two tallies come to, each count on 64 bits.

@@ -45,12 +45,10 @@ pub fn ready_priorities(tasks: [Record; 8], cells: [Cell; 8]) -> u8
     ensures { result ≡ ready_priorities tasks cells }
 {
     let mut priorities: u8 = 0;
-    let mut slot: usize = 0;
-    while slot < 8 {
+    for slot in 0..8 {
         let cell = cells[slot];
         priorities = priorities
             | priority_bit(is_ready(cell), priority_of(tasks[slot], slot, cell));
-        slot += 1;
     }
     priorities
 }

@@ -37,14 +37,12 @@ fn top_backup(tasks: [Record; 8], cells: [Cell; 8], priority: u8) -> u8
     ensures { result ≡ top_backup (record_at tasks) (cell_at cells) priority }
 {
     let mut highest: u8 = 0;
-    let mut slot: usize = 0;
-    while slot < 8 {
+    for slot in 0..8 {
         highest = found(
             is_backup_at(tasks[slot], cells[slot], priority),
             slot,
             highest,
         );
-        slot += 1;
     }
     highest
 }

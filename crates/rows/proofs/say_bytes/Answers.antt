@@ -1,21 +1,14 @@
 -- `rows::say_bytes` meets its contract: before each turn the rest of the bytes is still to be said. Assumes nothing.
-use Rattle.std.proofs.Common.{ℕ, ◌+◌, ◌-◌, length, drop, sym, refl, ap, ◌∙◌}
-use Rattle.rows.specs.Answers.{said, hex_text, bytes_said}
-use Rattle.rows.proofs.Sayings.{bytes-end, bytes_on}
+use Rattle.std.proofs.Common.{ℕ, Option, ◌+◌, drop, sym, ap, ◌∙◌}
+use Rattle.rows.specs.Answers.{text_end, bytes_end}
+use Rattle.rows.proofs.Sayings.{bytes-done, bytes_on}
 use Rattle.rows.proofs.say_bytes.Goals as goal
 
-pub loop-place-init : goal.loop-place-init
-loop-place-init c = refl
-
-pub slice_bounds-say-end : goal.slice_bounds-say-end
-unfolding hex_text
-slice_bounds-say-end c = sym (ap length c.hexadecimal-digits.ensures)
-
-pub loop-place-preserved : goal.loop-place-preserved
-loop-place-preserved c =
-    let at = c.loop-place in
-    let given = c.args in
-    ap (λ (end : ℕ). bytes_said given.list.now end (drop (at.place + 1) given.bytes.now)) (c.say-end.ensures ∙ ap (said given.list.now at.end) c.hexadecimal-digits.ensures) ∙ bytes_on _ _ _ _ c.loop-place-test.true ∙ at.invariant
+pub loop-byte-preserved : goal.loop-byte-preserved
+loop-byte-preserved c =
+    let at = c.loop-byte in
+    let list = c.args.list.now in
+    ap (λ (end : Option ℕ). bytes_end list end (drop (at.byte-index + 1) c.args.bytes.now)) (c.say-end.ensures ∙ ap (text_end list at.end) c.hexadecimal-digits.ensures) ∙ bytes_on _ _ _ _ c.loop-byte-test.true ∙ at.invariant
 
 pub returns : goal.returns
-returns c = sym (bytes-end _ _ _ _ c.loop-place-test.false) ∙ c.loop-place.invariant
+returns c = sym (bytes-done _ _ _ _ c.loop-byte-test.false) ∙ c.loop-byte.invariant

@@ -1,36 +1,10 @@
--- `sheet::judge` meets its contract: the header's refusal, then the records'. Assumes nothing.
-use Prim.Native.Nat.{ℕ}
-use mathlib.Core.Path.{◌≡◌, sym, ap, ◌∙◌}
-use Rattle.places.proofs.Refusals.{first_of, next-of}
-use Rattle.sheet.specs.Layout.{sheet_record}
-use Rattle.sheet.specs.Rules.{header_refusal, records_refusal, sheet_refusal}
-use Rattle.sheet.proofs.Cases.{GoodHeader, good-header}
+-- `sheet::judge` meets its contract. Assumes nothing.
+use mathlib.Core.Path.{refl, ◌∙◌}
+use Rattle.places.proofs.Answered.{good_of, passed_on, ok_answered, exit_err}
 use Rattle.sheet.proofs.judge.Goals as goal
 
-pub returns-then-refusal-ne0 : goal.returns-then-refusal-ne0
-unfolding sheet_refusal
-returns-then-refusal-ne0 c =
-    let said = c.judge_header-refusal.ensures in
-    said ∙ sym (first_of _ _ (λ e. c.if-refusal-ne0.true (said ∙ e)))
-
-pub count-requires : goal.count-requires
-count-requires c =
-    let passed : header_refusal c.args.sheet.now ≡ 0 = sym c.judge_header-refusal.ensures ∙ c.if-refusal-ne0.false in
-    let good : GoodHeader c.args.sheet.now = good-header c.args.sheet.now passed in
-    good.long
-
-pub judge_parts-requires : goal.judge_parts-requires
-judge_parts-requires c =
-    let passed : header_refusal c.args.sheet.now ≡ 0 = sym c.judge_header-refusal.ensures ∙ c.if-refusal-ne0.false in
-    let good : GoodHeader c.args.sheet.now = good-header c.args.sheet.now passed in
-    rw c.count.ensures record {
-      few = good.count.1;
-      sized = good.size;
-    }
+pub returns-in_err-good_count : goal.returns-in_err-good_count
+returns-in_err-good_count c = exit_err _ c.from_residual.ensures ∙ passed_on _ _ _ c.in_err-good_count.ensures
 
 pub returns : goal.returns
-unfolding sheet_refusal
-returns c =
-    let passed : header_refusal c.args.sheet.now ≡ 0 = sym c.judge_header-refusal.ensures ∙ c.if-refusal-ne0.false in
-    let sheet = c.args.sheet.now in
-    c.judge_parts.ensures ∙ ap (λ (n : ℕ). records_refusal n (sheet_record sheet)) c.count.ensures ∙ sym (next-of _ passed)
+returns c = ok_answered _ _ (good_of _ _ c.in_ok-good_count.ensures) refl

@@ -1,33 +1,22 @@
 -- `sheet::judge_place` meets its contract. Assumes nothing.
-use mathlib.Core.Path.{◌≡◌, sym, ◌∙◌}
+use mathlib.Core.Path.{refl, ◌∙◌}
 use borrow.Author.Tests.{lt-ltb, le-ltb}
-use Rattle.places.proofs.Refusals.{first_of, next-of}
-use Rattle.sheet.specs.Rules.{sheet_refusal}
+use Rattle.places.proofs.Answered.{good_of, value_of, first_refused, then_answered, ok_answered, err_answered, exit_err}
 use Rattle.sheet.specs.Answers.{place_refusal}
-use Rattle.sheet.proofs.Cases.{good-sheet}
 use Rattle.sheet.proofs.judge_place.Goals as goal
 
-pub returns-then-refusal-ne0 : goal.returns-then-refusal-ne0
+pub returns-in_err-records : goal.returns-in_err-records
 unfolding place_refusal
-returns-then-refusal-ne0 c =
-    let said = c.judge-refusal.ensures in
-    said ∙ sym (first_of _ _ (λ e. c.if-refusal-ne0.true (said ∙ e)))
+returns-in_err-records c = exit_err _ c.from_residual.ensures ∙ first_refused _ _ _ c.in_err-records.ensures _
 
-pub count-requires : goal.count-requires
-count-requires c =
-    let good : sheet_refusal c.args.sheet.now ≡ 0 = sym c.judge-refusal.ensures ∙ c.if-refusal-ne0.false in
-    (good-sheet _ good).0.long
-
-pub returns-then-place-count : goal.returns-then-place-count
+pub returns-then-place-records : goal.returns-then-place-records
 unfolding place_refusal
-returns-then-place-count c =
-    let good : sheet_refusal c.args.sheet.now ≡ 0 = sym c.judge-refusal.ensures ∙ c.if-refusal-ne0.false in
-    let below = rw c.count.ensures at c.if-place-count.true in
-    sym (next-of _ good ∙ simp (lt-ltb _ _ below))
+returns-then-place-records c =
+    let below = rw (value_of _ _ c.in_ok-records.ensures) at c.if-place-records.true in
+    ok_answered _ _ (simp (lt-ltb _ _ below)) refl ∙ then_answered _ _ (good_of _ _ c.in_ok-records.ensures)
 
-pub returns-else-place-count : goal.returns-else-place-count
+pub returns-else-place-records : goal.returns-else-place-records
 unfolding place_refusal
-returns-else-place-count c =
-    let good : sheet_refusal c.args.sheet.now ≡ 0 = sym c.judge-refusal.ensures ∙ c.if-refusal-ne0.false in
-    let above = rw c.count.ensures at c.if-place-count.false in
-    sym (next-of _ good ∙ simp (le-ltb _ _ above))
+returns-else-place-records c =
+    let above = rw (value_of _ _ c.in_ok-records.ensures) at c.if-place-records.false in
+    err_answered _ _ (simp (le-ltb _ _ above)) ∙ then_answered _ _ (good_of _ _ c.in_ok-records.ensures)

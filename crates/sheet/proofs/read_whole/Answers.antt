@@ -1,15 +1,25 @@
 -- `sheet::read_whole` meets its contract: what is read, but for a shared processor. Assumes nothing.
-use Rattle.sheet.proofs.Whole.{whole-refused, whole_shared, whole-read}
+use mathlib.Core.Path.{sym, ap, ◌∙◌}
+use Rattle.places.proofs.Refusals.{next-of}
+use Rattle.places.proofs.Answered.{good_of, first_refused, passed_on, ok_answered, exit_err}
+use Rattle.sheet.specs.Rules.{shared_refusal, whole_sheet_refusal}
+use Rattle.sheet.specs.Answers.{read_answer, whole_answer}
+use Rattle.sheet.proofs.Told.{read-told}
 use Rattle.sheet.proofs.read_whole.Goals as goal
 
-pub returns-then-reading-ne0 : goal.returns-then-reading-ne0
-returns-then-reading-ne0 c =
-    whole-refused c.args.sheet.now _ c.read-reading.ensures c.if-reading-ne0.true
+pub returns-in_err-table : goal.returns-in_err-table
+unfolding read_answer whole_answer whole_sheet_refusal
+returns-in_err-table c = exit_err _ c.from_residual.ensures ∙ first_refused _ _ _ c.in_err-table.ensures _
 
-pub returns-then-shared-ne0 : goal.returns-then-shared-ne0
-returns-then-shared-ne0 c =
-    whole_shared c.args.sheet.now _ c.read-reading.ensures c.if-reading-ne0.false _ c.judge_shared-shared.ensures c.if-shared-ne0.true _ c.no_table.ensures
+pub returns-in_err-judge_shared : goal.returns-in_err-judge_shared
+unfolding whole_answer whole_sheet_refusal
+returns-in_err-judge_shared c =
+    let told = read-told _ c.in_ok-table.ensures in
+    exit_err _ c.from_residual-in_err-judge_shared.ensures ∙ rw (next-of _ told.0, ← told.1) (passed_on _ _ _ c.in_err-judge_shared.ensures)
 
 pub returns : goal.returns
+unfolding whole_answer whole_sheet_refusal
 returns c =
-    whole-read c.args.sheet.now _ c.read-reading.ensures c.if-reading-ne0.false _ c.judge_shared-shared.ensures c.if-shared-ne0.false
+    let told = read-told _ c.in_ok-table.ensures in
+    let good = next-of _ told.0 ∙ ap shared_refusal (sym told.1) ∙ good_of _ _ c.in_ok-judge_shared.ensures in
+    ok_answered _ _ good (simp (good, told.1))

@@ -8,7 +8,7 @@ use lib.Dec.{ltb}
 use lib.ListN.{length, drop}
 use borrow.Author.Tests.{ne_eqb, lt-ltb, le-ltb}
 use Rattle.places.proofs.Refusals.{first_of, next-of}
-use Rattle.sheet.specs.declared.Reading.{Reading}
+use Rattle.places.proofs.Answered.{broken_of, first_refused, ok_answered, err_answered, exit_err}
 use Rattle.sheet.specs.declared.Table.{Table}
 use Rattle.sheet.specs.Layout.{table_of, table_size, sheet_of}
 use Rattle.sheet.specs.Rules.{sheet_refusal}
@@ -16,77 +16,58 @@ use Rattle.sheet.specs.Answers.{read_answer, rewrite_refusal, rewrite_answer, re
 use Rattle.sheet.proofs.Spelled.{Bytes}
 use Rattle.sheet.proofs.Cases.{good-sheet}
 use Rattle.sheet.proofs.Return.{size-kept, sheet-kept}
-use Rattle.sheet.proofs.Demands.{read-good, table-good}
+use Rattle.sheet.proofs.Demands.{table-good}
+use Rattle.sheet.proofs.Told.{read-told}
 use Rattle.sheet.proofs.rewrite.Goals as goal
 
--- what is read of a sheet has its refusal
-told : (s : List ℕ) {reading : Reading} → reading ≡ read_answer s → reading.refusal ≡ sheet_refusal s
-unfolding read_answer
-told s e = ap (λ (r : Reading). r.refusal) e
-
--- the refusal in each case
-module _ (s out : List ℕ) where
-  sheet-refused : (sheet_refusal s ≡ 0 → ⊥) → rewrite_refusal s out ≡ sheet_refusal s
+-- the refusal where the sheet is good
+module _ (s out : List ℕ) (good : sheet_refusal s ≡ 0) where
+  room-refused : length out < length s → rewrite_refusal s out ≡ 11
   unfolding rewrite_refusal
-  sheet-refused broken = first_of (sheet_refusal s) _ broken
+  room-refused short = next-of (cond (ltb (length out) (length s)) 11 0) good ∙ simp (lt-ltb (length out) (length s) short)
 
-  room-refused : sheet_refusal s ≡ 0 → length out < length s → rewrite_refusal s out ≡ 11
+  none-refused : length s ≤ length out → rewrite_refusal s out ≡ 0
   unfolding rewrite_refusal
-  room-refused good short = next-of (cond (ltb (length out) (length s)) 11 0) good ∙ simp (lt-ltb (length out) (length s) short)
+  none-refused room = next-of (cond (ltb (length out) (length s)) 11 0) good ∙ simp (le-ltb (length out) (length s) room)
 
-  none-refused : sheet_refusal s ≡ 0 → length s ≤ length out → rewrite_refusal s out ≡ 0
-  unfolding rewrite_refusal
-  none-refused good room = next-of (cond (ltb (length out) (length s)) 11 0) good ∙ simp (le-ltb (length out) (length s) room)
-
-  -- refused, there is nothing written
-  refused : (refusal : ℕ) → rewrite_refusal s out ≡ refusal → (refusal ≡ 0 → ⊥) → (record { refusal = refusal; written = 0 } ≡ rewrite_answer s out) × (out ≡ rewrite_leaves s out)
-  unfolding rewrite_answer rewrite_leaves
-  refused refusal is broken = (simp (is, ne_eqb refusal 0 broken), simp (is, ne_eqb refusal 0 broken))
-
-  -- else the sheet is
-  written : rewrite_refusal s out ≡ 0 → (record { refusal = 0; written = length s } ≡ rewrite_answer s out) × (s ++ drop (length s) out ≡ rewrite_leaves s out)
-  unfolding rewrite_answer rewrite_leaves
-  written is = (simp is, simp is)
-
-pub returns-then-reading-ne0 : goal.returns-then-reading-ne0
-returns-then-reading-ne0 c =
-    let given = c.args in
-    let sheet = given.sheet.now in
-    let said = told sheet c.read-reading.ensures in
-    let whole = refused sheet given.out.now _ (sheet-refused sheet given.out.now (λ none. c.if-reading-ne0.true (said ∙ none)) ∙ sym said) c.if-reading-ne0.true in
-    record { answer = whole.0; leaves = whole.1 }
+pub returns-in_err-table : goal.returns-in_err-table
+unfolding read_answer rewrite_answer rewrite_refusal rewrite_leaves
+returns-in_err-table c =
+    let told = c.in_err-table.ensures in
+    let broken = broken_of _ _ told in
+    record {
+      answer = exit_err _ c.from_residual.ensures ∙ first_refused _ _ _ told _;
+      leaves = simp (first_of (sheet_refusal c.args.sheet.now) (cond (ltb (length c.args.out.now) (length c.args.sheet.now)) 11 0) broken, ne_eqb (sheet_refusal c.args.sheet.now) 0 broken);
+    }
 
 pub returns-then-out-sheet : goal.returns-then-out-sheet
+unfolding rewrite_answer rewrite_leaves
 returns-then-out-sheet c =
-    let lent : List ℕ = c.args.sheet.now in
-    let good : sheet_refusal lent ≡ 0 = sym (told lent c.read-reading.ensures) ∙ c.if-reading-ne0.false in
-    let out = c.args.out.now in
-    let whole = refused lent out 11 (room-refused lent out good c.if-out-sheet.true) (λ none. omega arith) in
-    record { answer = whole.0; leaves = whole.1 }
+    let refusal = room-refused c.args.sheet.now c.args.out.now (read-told _ c.in_ok-table.ensures).0 c.if-out-sheet.true in
+    record { answer = err_answered _ _ (sym refusal); leaves = simp refusal }
 
 pub put_sheet-requires : goal.put_sheet-requires
 put_sheet-requires c =
     let lent : List ℕ = c.args.sheet.now in
-    let good : sheet_refusal lent ≡ 0 = sym (told lent c.read-reading.ensures) ∙ c.if-reading-ne0.false in
-    let held : c.read-reading.result.table ≡ table_of lent = ap (λ (r : Reading). r.table) (c.read-reading.ensures ∙ read-good lent good) in
-    let sized : length lent ≡ table_size (table_of lent) = size-kept lent (good-sheet lent good).0 in
+    let told = read-told lent c.in_ok-table.ensures in
+    let sized : length lent ≡ table_size (table_of lent) = size-kept lent (good-sheet lent told.0).0 in
     record {
-      good = rw held (table-good lent good);
-      room = rw (held, ← sized) c.if-out-sheet.false;
+      good = rw told.1 (table-good lent told.0);
+      room = rw (told.1, ← sized) c.if-out-sheet.false;
     }
 
 pub returns : goal.returns
+unfolding rewrite_answer rewrite_leaves
 returns c =
     let lent : List ℕ = c.args.sheet.now in
-    let good : sheet_refusal lent ≡ 0 = sym (told lent c.read-reading.ensures) ∙ c.if-reading-ne0.false in
-    let held : c.read-reading.result.table ≡ table_of lent = ap (λ (r : Reading). r.table) (c.read-reading.ensures ∙ read-good lent good) in
-    let sized : length lent ≡ table_size (table_of lent) = size-kept lent (good-sheet lent good).0 in
     let out = c.args.out.now in
-    let is = written lent out (none-refused lent out good c.if-out-sheet.false) in
-    let byte : Bytes lent = λ k. omega (arith, c.shared_slice_known-1.given k) in
-    let put = c.put_sheet.ensures ∙ ap (λ (t : Table). sheet_of t ++ drop (table_size t) out) held
-    ∙ ap₂ (λ (l : List ℕ) (n : ℕ). l ++ drop n out) (sheet-kept lent byte (good-sheet lent good).0) (sym sized) in
+    let told = read-told lent c.in_ok-table.ensures in
+    let header = (good-sheet lent told.0).0 in
+    let byte : Bytes lent = λ k. omega (arith, c.type_inv.sheet k) in
+    let refusal = none-refused lent out told.0 c.if-out-sheet.false in
+    let put = c.put_sheet.ensures ∙ ap (λ (t : Table). sheet_of t ++ drop (table_size t) out) told.1
+    ∙ ap₂ (λ (l : List ℕ) (n : ℕ). l ++ drop n out) (sheet-kept lent byte header) (sym (size-kept lent header)) in
     record {
-      answer = is.0;
-      leaves = put ∙ is.1;
+      answer = ok_answered _ _ refusal (simp refusal);
+      leaves = put ∙ simp refusal;
     }

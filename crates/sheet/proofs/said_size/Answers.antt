@@ -1,31 +1,22 @@
 -- `sheet::said_size` meets its contract. Assumes nothing.
-use mathlib.Core.Path.{◌≡◌, sym, ◌∙◌}
-use borrow.Author.Tests.{ne_eqb}
-use Rattle.sheet.specs.Rules.{size_refusal}
+use mathlib.Core.Path.{◌∙◌}
+use Rattle.places.proofs.Answered.{good_of, passed_on, ok_answered, exit_err}
 use Rattle.sheet.specs.Answers.{size_answer}
-use Rattle.sheet.proofs.Cases.{GoodSize, good-size}
+use Rattle.sheet.proofs.Cases.{good-size}
 use Rattle.sheet.proofs.said_size.Goals as goal
 
-pub returns-then-refusal-ne0 : goal.returns-then-refusal-ne0
+pub returns-in_err-judge_size : goal.returns-in_err-judge_size
 unfolding size_answer
-returns-then-refusal-ne0 c =
-    let told = c.judge_size-refusal.ensures in
-    simp (told, ne_eqb (size_refusal c.args.sheet.now) 0 (λ e. c.if-refusal-ne0.true (told ∙ e)))
+returns-in_err-judge_size c = exit_err _ c.from_residual.ensures ∙ passed_on _ _ _ c.in_err-judge_size.ensures
 
 pub edition-edition-requires : goal.edition-edition-requires
-edition-edition-requires c =
-    let good : size_refusal c.args.sheet.now ≡ 0 = sym c.judge_size-refusal.ensures ∙ c.if-refusal-ne0.false in
-    let said : GoodSize c.args.sheet.now = good-size c.args.sheet.now good in
-    said.long
+edition-edition-requires c = (good-size _ (good_of _ _ c.in_ok-judge_size.ensures)).long
 
 pub count-requires : goal.count-requires
-count-requires c =
-    let good : size_refusal c.args.sheet.now ≡ 0 = sym c.judge_size-refusal.ensures ∙ c.if-refusal-ne0.false in
-    let said : GoodSize c.args.sheet.now = good-size c.args.sheet.now good in
-    said.long
+count-requires c = (good-size _ (good_of _ _ c.in_ok-judge_size.ensures)).long
 
 pub returns : goal.returns
 unfolding size_answer
 returns c =
-    let good : size_refusal c.args.sheet.now ≡ 0 = sym c.judge_size-refusal.ensures ∙ c.if-refusal-ne0.false in
-    simp (good, c.size.ensures, c.count.ensures, c.edition-edition.ensures)
+    let good = good_of _ _ c.in_ok-judge_size.ensures in
+    ok_answered _ _ good (simp (good, c.size.ensures, c.count.ensures, c.edition-edition.ensures))

@@ -2,7 +2,9 @@
 use Prim.Native.Nat.{ℕ, ◌<◌, ◌≤◌}
 use mathlib.Core.Path.{◌≡◌, sym, ap, subst, ◌∙◌}
 use lib.ListN.{length}
+use Rattle.places.proofs.Answered.{told_answer}
 use Rattle.sheet.specs.Rules.{table_refusal}
+use Rattle.sheet.proofs.Told.{table-known}
 use Rattle.sheet.proofs.Cases.{good-table}
 use Rattle.text.specs.Named.{named_size}
 use Rattle.text.proofs.NamedAnswered.{named-refused, named-short, named-fits}
@@ -10,19 +12,19 @@ use Rattle.text.proofs.Laid.{put_whole}
 use Rattle.text.proofs.show_named.Goals as goal
 
 pub returns-then-broken-ne0 : goal.returns-then-broken-ne0
-returns-then-broken-ne0 c = named-refused _ _ _ _ c.judge_table-broken.ensures c.if-broken-ne0.true
+returns-then-broken-ne0 c = named-refused _ _ _ _ (c.told-broken.ensures ∙ told_answer (table-known c.args.table) _ c.judge_table.ensures) c.if-broken-ne0.true
 
 pub returns-then-out-size : goal.returns-then-out-size
 unfolding named_size
 returns-then-out-size c =
-    let good : table_refusal c.args.table ≡ 0 = sym c.judge_table-broken.ensures ∙ c.if-broken-ne0.false in
+    let good : table_refusal c.args.table ≡ 0 = sym (c.told-broken.ensures ∙ told_answer (table-known c.args.table) _ c.judge_table.ensures) ∙ c.if-broken-ne0.false in
     let sized : c.size-size.result ≡ named_size c.args.table = c.size-size.ensures in
     named-short _ _ _ good (subst (λ (n : ℕ). length c.args.out.now < n) sized c.if-out-size.true)
 
 pub put_table-requires : goal.put_table-requires
 unfolding named_size
 put_table-requires c =
-    let good : table_refusal c.args.table ≡ 0 = sym c.judge_table-broken.ensures ∙ c.if-broken-ne0.false in
+    let good : table_refusal c.args.table ≡ 0 = sym (c.told-broken.ensures ∙ told_answer (table-known c.args.table) _ c.judge_table.ensures) ∙ c.if-broken-ne0.false in
     let sized : c.size-size.result ≡ named_size c.args.table = c.size-size.ensures in
     let known = good-table _ good in
     (known.count.0, known.count.1, subst (λ (n : ℕ). n ≤ length c.args.out.now) sized c.if-out-size.false)
@@ -30,7 +32,7 @@ put_table-requires c =
 pub returns : goal.returns
 unfolding named_size
 returns c =
-    let good : table_refusal c.args.table ≡ 0 = sym c.judge_table-broken.ensures ∙ c.if-broken-ne0.false in
+    let good : table_refusal c.args.table ≡ 0 = sym (c.told-broken.ensures ∙ told_answer (table-known c.args.table) _ c.judge_table.ensures) ∙ c.if-broken-ne0.false in
     let sized : c.size-size.result ≡ named_size c.args.table = c.size-size.ensures in
     let given = c.args in
     let fits = subst (λ (n : ℕ). n ≤ length given.out.now) sized c.if-out-size.false in

@@ -1,5 +1,5 @@
 -- The assured equation as a demand over tasks in order, and what the search over it finds. Assumes nothing.
-use Prim.Native.Nat.{ℕ, ◌+◌, ◌-◌, ◌*◌, ◌≤◌, ◌<◌}
+use Prim.Native.Nat.{ℕ, ◌+◌, ◌-◌, ◌≤◌, ◌<◌}
 use mathlib.Core.Path.{◌≡◌, refl, ap, ap₂, ◌∙◌}
 use mathlib.Core.Bool.{cond, not, ◌&&◌, and-true, and-false}
 use native.Mathlib.Decide.{ℕ_discrete, dec_lt}

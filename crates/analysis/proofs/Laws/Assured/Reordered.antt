@@ -1,5 +1,5 @@
 -- The same tasks in another order ask the same by the equation of the assured times, and have the same assured times. Assumes nothing.
-use Prim.Native.Nat.{ℕ, ◌+◌, ◌-◌, ◌*◌, ◌<◌}
+use Prim.Native.Nat.{ℕ, ◌+◌, ◌*◌, ◌<◌}
 use mathlib.Core.Path.{◌≡◌, sym, ap, ap₂, ◌∙◌}
 use mathlib.Core.Bool.{Bool, cond, ◌&&◌}
 use native.Mathlib.Decide.{ℕ_discrete}

@@ -3,13 +3,15 @@ use Prim.Native.Nat.{ℕ}
 use mathlib.Core.Path.{◌≡◌, refl, sym, ap, ◌∙◌}
 use mathlib.Core.Bool.{Bool, true, false, cond}
 use mathlib.Core.List.{List}
-use borrow.Author.Tests.{eq-eqb}
+use native.Mathlib.Decide.{ℕ_discrete}
+use borrow.Author.Tests.{eq-eqb, ne_eqb}
+use lib.Dec.{eqb}
 use Rattle.places.specs.Refusals.{or_else}
 use Rattle.places.proofs.Refusals.{next-of}
 use Rattle.sheet.specs.declared.Table.{Table}
 use Rattle.sheet.specs.Rules.{outside}
 use Rattle.sheet.proofs.Cases.{good-table, outside-within}
-use Rattle.analysis.specs.declared.Bounds.{Bounds}
+use Rattle.analysis.specs.Told.{Bounds}
 use Rattle.analysis.specs.declared.Rule.{Rule}
 use Rattle.analysis.specs.declared.Rule.TheVariants.{Published, Assured}
 use Rattle.analysis.specs.Common.Allowed.{Within}
@@ -23,6 +25,28 @@ use Rattle.analysis.proofs.Laws.Bounds.Passing.{within-passes}
 use Rattle.analysis.proofs.Laws.Bounds.Assured.{within-assured}
 use Rattle.analysis.proofs.Laws.Bounds.Hopeless.{none-fails}
 use Rattle.analysis.proofs.Laws.ByRule.{rule-good}
+
+-- bounds are refused as their table is
+module _ (rule : Rule) (t : Table) where
+  pub bounds-refusal : (bounds_of rule t).refusal ≡ rule_refusal rule t
+  unfolding bounds_of found_bounds
+  bounds-refusal = go (ℕ_discrete (rule_refusal rule t) 0) (none_meets t)
+    where
+      go : Dec (rule_refusal rule t ≡ 0) → (none : Bool)
+          → (cond (eqb (rule_refusal rule t) 0) (cond none (no_bounds 0) (found_bounds rule t)) (no_bounds (rule_refusal rule t))).refusal ≡ rule_refusal rule t
+      go (yes fine) true = simp fine
+      go (yes fine) false = simp fine
+      go (no broken) none = simp (ne_eqb (rule_refusal rule t) 0 broken)
+
+  -- else there are none, or those of the table
+  module _ (fine : rule_refusal rule t ≡ 0) where
+    pub bounds-none : none_meets t ≡ true → bounds_of rule t ≡ no_bounds 0
+    unfolding bounds_of
+    bounds-none none = simp (fine, none)
+
+    pub bounds-found : none_meets t ≡ false → bounds_of rule t ≡ found_bounds rule t
+    unfolding bounds_of
+    bounds-found some = simp (fine, some)
 
 -- nothing stays within no bounds
 none_within : (rule : Rule) (choice : List ℕ) → (within_answer rule (no_bounds 0) choice).yes ≡ false

@@ -1,12 +1,11 @@
 -- The same tasks in another order bear the same backups. Assumes nothing.
-use Prim.Native.Nat.{ℕ, ◌-◌, ◌<◌}
+use Prim.Native.Nat.{ℕ, ◌<◌}
 use mathlib.Core.Path.{◌≡◌, sym, ap, ap₂, fun_ext}
 use mathlib.Core.Bool.{Bool, true, false, cond, not}
 use lib.Dec.{eqb}
 use Rattle.sheet.specs.declared.Record.{Record}
 use Rattle.analysis.specs.declared.Rule.{Rule}
 use Rattle.analysis.specs.declared.Rule.TheVariants.{Published, Assured}
-use Rattle.analysis.specs.Common.Rounding.{up}
 use Rattle.analysis.specs.Common.Tasks.{Tasks}
 use Rattle.analysis.specs.Published.Equations.{asked_elsewhere, asked_itself}
 use Rattle.analysis.specs.Common.Search.{least_within}

@@ -1,13 +1,13 @@
 -- A choice beside bounds, record by record: what the tops and the limits decide. Assumes nothing.
-use Prim.Native.Nat.{ℕ, ◌+◌, ◌*◌, ◌≤◌, ◌<◌}
-use mathlib.Core.Path.{◌≡◌, sym, ap, ◌∙◌}
+use Prim.Native.Nat.{ℕ, ◌≤◌, ◌<◌}
+use mathlib.Core.Path.{◌≡◌, sym, ap}
 use mathlib.Core.Bool.{Bool, true, false, not}
 use mathlib.Core.List.{List}
 use native.Mathlib.Omega.{arith}
 use borrow.Author.Tests.{lt-ltb, le-ltb, le-leb, lt-leb}
 use lib.Dec.{ltb}
 use lib.ListN.{get_or}
-use Rattle.analysis.specs.declared.Bounds.{Bounds}
+use Rattle.analysis.specs.Told.{Bounds}
 use Rattle.analysis.specs.declared.Rule.{Rule}
 use Rattle.analysis.specs.declared.Rule.TheVariants.{Published}
 use Rattle.analysis.specs.Common.Backups.{others, everyone}
@@ -42,8 +42,6 @@ module _ (rule : Rule) (b : Bounds) (choice : List ℕ) (place : ℕ) where
   unfolding within_at
   too-high high = simp (lt-leb (get_or choice place 0) 8 high)
 
-  pub limits-decide : get_or choice place 0 ≤ 8 → {is : Bool}
-      → is ≡ below rule b.backups b.priorities choice b.count place (get_or b.limits (9 * place + get_or choice place 0) 0) (get_or b.limits (9 * place) 0)
-      → past rule b choice place ≡ not is
-  unfolding within_at below_limits
+  pub limits-decide : get_or choice place 0 ≤ 8 → {is : Bool} → is ≡ below_limits rule b choice place → past rule b choice place ≡ not is
+  unfolding within_at
   limits-decide low e = simp (le-leb (get_or choice place 0) 8 low) (ap not (sym e))

@@ -1,5 +1,5 @@
 -- Document 02, request 10: the same tasks in another order. A sum, a largest and a largest backup over them do not depend on their order. Assumes nothing.
-use Prim.Native.Nat.{ℕ, ◌-◌, ◌<◌}
+use Prim.Native.Nat.{ℕ, ◌<◌}
 use mathlib.Core.Path.{◌≡◌, sym, ap, ◌∙◌}
 use mathlib.Core.Bool.{Bool, not}
 use native.Mathlib.Decide.{ℕ_discrete}

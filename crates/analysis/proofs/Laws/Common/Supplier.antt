@@ -1,5 +1,5 @@
 -- The supplier's share: that of a good table is within the round, and a round that is all ours leaves the supplier nothing. Assumes nothing.
-use Prim.Native.Nat.{ℕ, zero, ◌-◌, ◌≤◌}
+use Prim.Native.Nat.{ℕ, ◌-◌, ◌≤◌}
 use mathlib.Core.Path.{◌≡◌}
 use native.Mathlib.Nat.{mul-zero}
 use native.Mathlib.Decide.{ℕ_discrete}

@@ -8,7 +8,7 @@ use native.Mathlib.Omega.{arith}
 use borrow.Author.Tests.{lt-ltb, le-ltb, lt-leb}
 use lib.Dec.{leb, ltb}
 use Rattle.analysis.specs.declared.common.by_rank.Frame.{Frame}
-use Rattle.analysis.specs.declared.common.jump.Taken.{Taken}
+use Rattle.analysis.specs.declared.common.taken.Taken.{Taken}
 use Rattle.analysis.specs.Common.Rounding.{up}
 use Rattle.analysis.specs.Common.Tasks.{Tasks}
 use Rattle.analysis.specs.Common.Demand.{Demand, load_of, demand_of}

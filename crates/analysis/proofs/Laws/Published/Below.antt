@@ -1,5 +1,5 @@
 -- What of a choice a record sees: its own fault priority, M and N. So what a choice holds past the count plays no part: two that agree below it give each record the same answer, and the same verdict. Assumes nothing.
-use Prim.Native.Nat.{ℕ, ◌-◌, ◌<◌}
+use Prim.Native.Nat.{ℕ, ◌<◌}
 use mathlib.Core.Path.{◌≡◌, ap, ap₂, ◌∙◌}
 use mathlib.Core.Bool.{Bool, not}
 use mathlib.Core.List.{List}

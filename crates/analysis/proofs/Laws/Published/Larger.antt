@@ -1,16 +1,14 @@
 -- The response is the larger of two times: case by case, late where either is, and no later where both are. Assumes nothing.
-use Prim.Native.Nat.{ℕ, ◌≤◌, ◌<◌, max, ◌-◌}
+use Prim.Native.Nat.{ℕ, ◌≤◌, ◌<◌, max}
 use mathlib.Core.Path.{◌≡◌, sym}
-use mathlib.Core.Bool.{true, cond, ◌||◌, or-true}
+use mathlib.Core.Bool.{cond, ◌||◌, or-true}
 use native.Mathlib.Omega.{arith}
 use borrow.Author.Tests.{eq-eqb, ne_eqb, le-ltb, lt-ltb}
 use lib.Dec.{eqb, ltb}
 use Rattle.analysis.specs.Common.Tasks.{Tasks}
 use Rattle.analysis.specs.Published.Response.{time_elsewhere, time_itself, response_within, response_time, late}
 use Rattle.analysis.specs.Common.Entries.{is_late}
-use Rattle.analysis.specs.declared.Outcome.TheVariants.{Late}
 use native.Mathlib.Decide.{ℕ_discrete, dec_lt}
-use Rattle.analysis.specs.Common.Allowed.{Within}
 use Rattle.analysis.proofs.Laws.Common.Easier.{NoLater}
 
 module _ (limit : ℕ) (s : Tasks) (i : ℕ) where

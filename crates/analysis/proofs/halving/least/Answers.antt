@@ -1,32 +1,24 @@
 -- `analysis::halving::least` meets its contract. Assumes nothing.
-use mathlib.Core.Path.{subst}
+use mathlib.Core.Path.{sym, subst}
 use mathlib.Core.List.{List}
 use Prim.Native.Nat.{ℕ}
+use Rattle.analysis.specs.Common.Allowed.{Within}
 use Rattle.analysis.specs.Common.ByRank.{FaultsOf}
-use borrow.Author.Rules.{rules}
+use Rattle.analysis.proofs.Laws.Common.Choice.{own-allowed}
 use Rattle.analysis.proofs.halving.least.Goals as goal
 
-pub put-requires : goal.put-requires
-put-requires c = record {
-  good = c.requires;
-  room = search rules;
-}
-
-pub put_choice-requires : goal.put_choice-requires
-put_choice-requires c = record {
-  good = c.requires;
-  room = search rules;
-}
+pub chosen-among-requires : goal.chosen-among-requires
+chosen-among-requires c =
+    record { good = c.requires; within = subst (λ (choice : List ℕ). Within c.args.table choice) (sym c.own_choice.ensures) (own-allowed c.args.table c.requires).each }
 
 pub halved-requires : goal.halved-requires
 halved-requires c =
-    let chose = c.put_choice in
-    let own = c.own_choice in
-    let put = c.put in
+    let among = c.chosen-among in
     record {
       good = c.requires;
-      filled = put.ensures;
-      beside = subst (λ (choice : List ℕ). FaultsOf c.args.table choice chose.new.faults) own.ensures chose.ensures;
+      filled = among.ensures.filled;
+      beside = subst (λ (choice : List ℕ). FaultsOf c.args.table choice among.result.faults.now) c.own_choice.ensures among.ensures.beside;
+      framed = among.ensures.framed;
     }
 
 pub returns : goal.returns

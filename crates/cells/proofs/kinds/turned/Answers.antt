@@ -1,12 +1,9 @@
 -- `cells::kinds::turned` meets its contract. Assumes nothing.
+use Rattle.std.proofs.Common.{arith}
+use Rattle.std.proofs.lemmas.Grind.{common_steps}
 use Rattle.cells.specs.Cells.{turned}
-use borrow.Author.Tests.{eq-eqb, ne_eqb}
 use Rattle.cells.proofs.kinds.turned.Goals as goal
 
-pub returns-then-byte-eq34 : goal.returns-then-byte-eq34
+pub returns : goal.returns
 unfolding turned
-returns-then-byte-eq34 c = simp (eq-eqb _ 34 c.if-byte-eq34.true)
-
-pub returns-else-byte-eq34 : goal.returns-else-byte-eq34
-unfolding turned
-returns-else-byte-eq34 c = simp (ne_eqb _ 34 c.if-byte-eq34.false)
+returns c = grind (arith, common_steps)

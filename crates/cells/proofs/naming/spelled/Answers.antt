@@ -1,20 +1,13 @@
--- `cells::naming::spelled` meets its contract: before each turn the name so far, with the bytes from the place on, is the whole name. Assumes nothing.
-use mathlib.Core.Path.{sym, ap, ◌∙◌}
-use Prim.Native.Nat.{◌+◌, ◌-◌}
-use native.Mathlib.Omega.{arith}
-use lib.ListN.{drop, drop_of_length-le}
-use Rattle.cells.specs.Names.{spelled_from, misspelt}
-use Rattle.cells.proofs.Turns.{spelling-more}
-use borrow.Author.Rules.{rules}
+-- `cells::naming::spelled` meets its contract: the name that bytes spell is a fold over them. Assumes nothing.
+use Rattle.std.proofs.Common.{rules, ◌∙◌, sym}
+use Rattle.std.proofs.lemmas.Iterator.{YieldsList-from_slice}
+use Rattle.std.proofs.lemmas.Iterator.Consumers.{fold_from_yields_List}
+use Rattle.cells.specs.Names.{misspelt, spelled_after}
+use Rattle.cells.proofs.Turns.{spelling_folds}
 use Rattle.cells.proofs.naming.spelled.Goals as goal
 
-pub loop-at-init : goal.loop-at-init
-unfolding misspelt
-loop-at-init c = (omega arith, ap (λ n. spelled_from c.args.quoted n c.args.bytes.now) c.misspelt-spelling.ensures)
-
-pub loop-at-preserved : goal.loop-at-preserved
-loop-at-preserved c = (search rules, ap (λ n. spelled_from c.args.quoted n (drop (c.loop-at.at + 1) c.args.bytes.now)) c.spelled_after-spelling.ensures ∙ sym (spelling-more c.args.bytes.now c.loop-at.at (search rules) c.args.quoted c.loop-at.spelling) ∙ c.loop-at.invariant.1)
-
 pub returns : goal.returns
-unfolding spelled_from
-returns c = sym (ap (spelled_from _ _) (drop_of_length-le _ {i = c.loop-at.at} (omega arith))) ∙ c.loop-at.invariant.1
+unfolding misspelt
+returns c =
+    rw (← c.misspelt.ensures)
+    (fold_from_yields_List _ (spelled_after c.args.quoted) _ _ c.fold.ensures.ran (YieldsList-from_slice c.args.bytes.now cc) (λ a x b q k. search rules) ∙ sym (spelling_folds c.args.quoted c.misspelt.result c.args.bytes.now))

@@ -1,27 +1,17 @@
 -- `cells::numbers::digit_of` meets its contract. Assumes nothing.
+use Rattle.std.proofs.Common.{arith}
 use Rattle.cells.specs.Numbers.{digit_of}
 use Rattle.cells.specs.Kinds.{is_digit}
-use borrow.Author.Tests.{lt-leb, le-leb}
-use borrow.Author.Rules.{rules}
 use Rattle.cells.proofs.numbers.digit_of.Goals as goal
 
-pub returns-then-byte-lt48 : goal.returns-then-byte-lt48
-unfolding digit_of is_digit
-returns-then-byte-lt48 c = record {
-  value = simp (lt-leb 48 _ c.if-byte-lt48.true);
-  small = search rules;
-}
+pub overflow_sub-byte : goal.overflow_sub-byte
+unfolding is_digit
+overflow_sub-byte c = grind (arith, c.is_digit.ensures, c.if-is_digit.true)
 
-pub returns-then-byte-gt57 : goal.returns-then-byte-gt57
-unfolding digit_of is_digit
-returns-then-byte-gt57 c = record {
-  value = simp (le-leb 48 _ c.if-byte-lt48.false, lt-leb _ 57 c.if-byte-gt57.true);
-  small = search rules;
-}
+pub returns-then-is_digit : goal.returns-then-is_digit
+unfolding digit_of
+returns-then-is_digit c = simp (← c.is_digit.ensures, c.if-is_digit.true) c.from.ensures
 
-pub returns : goal.returns
-unfolding digit_of is_digit
-returns c = record {
-  value = simp (le-leb 48 _ c.if-byte-lt48.false, le-leb _ 57 c.if-byte-gt57.false);
-  small = search rules;
-}
+pub returns-else-is_digit : goal.returns-else-is_digit
+unfolding digit_of
+returns-else-is_digit c = simp (← c.is_digit.ensures, c.if-is_digit.false)

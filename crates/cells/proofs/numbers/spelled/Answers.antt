@@ -2,10 +2,10 @@
 use Rattle.cells.specs.Numbers.{spelled}
 use Rattle.cells.proofs.numbers.spelled.Goals as goal
 
-pub returns-then-cell-are_digits : goal.returns-then-cell-are_digits
+pub returns-then-is_empty-are_digits : goal.returns-then-is_empty-are_digits
 unfolding spelled
-returns-then-cell-are_digits c = simp (← c.are_digits.ensures, c.if-cell-are_digits.true) c.value_of.ensures
+returns-then-is_empty-are_digits c = simp (← c.is_empty.ensures, ← c.are_digits.ensures, c.if-is_empty-are_digits.true) c.value_of.ensures
 
 pub returns : goal.returns
 unfolding spelled
-returns c = simp (← c.are_digits.ensures, c.if-cell-are_digits.false, ← c.why_not.ensures) c.not_number.ensures
+returns c = simp (← c.is_empty.ensures, ← c.are_digits.ensures, c.if-is_empty-are_digits.false, ← c.why_not.ensures) c.not_number.ensures

@@ -1,84 +1,39 @@
--- `choices::lister::fits` meets its contract: what is left of the room and of the list fall together. Assumes nothing.
-use Prim.Native.Nat.{ℕ, ◌+◌}
-use mathlib.Core.Path.{◌≡◌, refl, sym, ap}
-use mathlib.Core.Bool.{Bool, true}
-use mathlib.Core.List.{List, ◌∷◌}
-use native.Mathlib.Omega.{arith}
+-- `choices::lister::fits` meets its contract: where as many choices as the room has entries are passed over, there is a next one exactly if there are more. Assumes nothing.
+use Rattle.std.proofs.Common.{ℕ, List, length, Bool, true, false, not, Option, Some, None, ◌≡◌, ◌≤◌, ◌<◌, sym, arith, slice_get, leb, []}
 use borrow.Author.Tests.{lt-leb, le-leb}
-use lib.ListN.{length, drop}
-use Rattle.analysis.specs.declared.Bounds.{Bounds}
-use Rattle.analysis.specs.Bounds.Within.{bounds_in, within_answer}
+use native.Mathlib.Decide.{dec_le}
+use Rattle.std.specs.Option.{is_some, option_map}
+use Rattle.std.proofs.lemmas.Option.{slice_get_within, slice_get-get_or}
+use Rattle.std.proofs.lemmas.Iterator.Consumers.{nth_from_yields_List, YieldsList-from_first}
+use Rattle.analysis.specs.Bounds.Within.{within_answer}
+use Rattle.analysis.specs.Bounds.Lent.{bounds_lent}
+use Rattle.choices.specs.declared.within.Within.{Within}
 use Rattle.choices.specs.Order.{after_of}
 use Rattle.choices.specs.Stepping.{within_of}
-use Rattle.choices.proofs.Listed.{from_zero, start-allowed, Next, next-sifted}
+use Rattle.choices.proofs.Listed.{from_zero}
 use Rattle.choices.proofs.lister.fits.Goals as goal
 
-pub most-requires : goal.most-requires
-most-requires c = c.requires.few
+-- a list has no entry at a place exactly if it is no longer
+within_room : (list : List (List ℕ)) (room : ℕ) → None ≡ slice_get list room → length list ≤ room
+within_room list room none = go (dec_le (length list) room)
+  where
+    go : Dec (length list ≤ room) → length list ≤ room
+    go (yes low) = low
+    go (no high) =
+        let there : room < length list = omega (arith, high) in
+        let some = slice_get-get_or list room [] there in
+        cc (some, none)
 
-pub returns-then-most-room : goal.returns-then-most-room
-returns-then-most-room c =
-    let bounds : Bounds = bounds_in 0 c.args.count c.args.priorities.now c.args.backups.now c.args.limits.now in
-    let listed : List (List ℕ) = within_of c.args.rule bounds in
-    sym (le-leb (length listed) c.args.room (omega (arith, c.requires.most)))
+none_past : (list : List (List ℕ)) (room : ℕ) (found : Option (List ℕ)) (is_none : Bool) → option_map (λ c. c) found ≡ slice_get list room → is_some found ≡ not is_none → is_none ≡ leb (length list) room
+none_past list room None true e said = sym (le-leb (length list) room (within_room list room e))
+none_past list room (Some c) false e said = sym (lt-leb (length list) room (slice_get_within list room c (sym e)))
+none_past list room None false e said = cc
+none_past list room (Some c) true e said = cc
 
-pub loop-rule-init : goal.loop-rule-init
+pub returns-else-most-room : goal.returns-else-most-room
 unfolding within_of
-loop-rule-init c =
-    let bounds : Bounds = bounds_in 0 c.args.count c.args.priorities.now c.args.backups.now c.args.limits.now in
-    let test : List ℕ → Bool = λ choice. (within_answer c.args.rule bounds choice).yes in
-    (refl, start-allowed c.args.priorities.now, ap (λ (l : List (List ℕ)). length l + c.args.room) (from_zero c.args.priorities.now test c.requires.levels))
-
-pub go_on-requires : goal.go_on-requires
-go_on-requires c = record {
-  levels = c.requires.levels;
-  room = c.loop-rule.invariant.0;
-  allowed = c.loop-rule.invariant.1;
-}
-
-pub returns-then-left-eq0 : goal.returns-then-left-eq0
-returns-then-left-eq0 c =
-    let bounds : Bounds = bounds_in 0 c.args.count c.args.priorities.now c.args.backups.now c.args.limits.now in
-    let listed : List (List ℕ) = within_of c.args.rule bounds in
-    let found : List ℕ = c.go_on.new.choice in
-    let there : after_of c.loop-rule.choice listed ≡ found ∷ drop 1 (after_of c.loop-rule.choice listed) = c.go_on.ensures.there c.loop-rule-test.true in
-    let at = c.loop-rule in
-    let some = ap length there in
-    sym (lt-leb (length listed) c.args.room (omega (arith, at.invariant.2)))
-
-pub loop-rule-smaller : goal.loop-rule-smaller
-unfolding within_of
-loop-rule-smaller c =
-    let bounds : Bounds = bounds_in 0 c.args.count c.args.priorities.now c.args.backups.now c.args.limits.now in
-    let listed : List (List ℕ) = within_of c.args.rule bounds in
-    let found : List ℕ = c.go_on.new.choice in
-    let there : after_of c.loop-rule.choice listed ≡ found ∷ drop 1 (after_of c.loop-rule.choice listed) = c.go_on.ensures.there c.loop-rule-test.true in
-    let test : List ℕ → Bool = λ choice. (within_answer c.args.rule bounds choice).yes in
-    let next : Next c.args.priorities.now listed found (drop 1 (after_of c.loop-rule.choice listed)) = (
-    next-sifted c.args.priorities.now test c.requires.levels c.loop-rule.choice _ _ there
-    ) in
-    let fewer = ap length there in
-    omega (arith, ap length next.after)
-
-pub loop-rule-preserved : goal.loop-rule-preserved
-unfolding within_of
-loop-rule-preserved c =
-    let bounds : Bounds = bounds_in 0 c.args.count c.args.priorities.now c.args.backups.now c.args.limits.now in
-    let listed : List (List ℕ) = within_of c.args.rule bounds in
-    let found : List ℕ = c.go_on.new.choice in
-    let there : after_of c.loop-rule.choice listed ≡ found ∷ drop 1 (after_of c.loop-rule.choice listed) = c.go_on.ensures.there c.loop-rule-test.true in
-    let test : List ℕ → Bool = λ choice. (within_answer c.args.rule bounds choice).yes in
-    let next : Next c.args.priorities.now listed found (drop 1 (after_of c.loop-rule.choice listed)) = (
-    next-sifted c.args.priorities.now test c.requires.levels c.loop-rule.choice _ _ there
-    ) in
-    let at = c.loop-rule in
-    let fewer = ap length there in
-    (next.eight, next.going_on, omega (arith, ap length next.after, at.invariant.2))
-
-pub returns : goal.returns
-returns c =
-    let bounds : Bounds = bounds_in 0 c.args.count c.args.priorities.now c.args.backups.now c.args.limits.now in
-    let listed : List (List ℕ) = within_of c.args.rule bounds in
-    let at = c.loop-rule in
-    let nothing = ap length (c.go_on.ensures.ended c.loop-rule-test.false) in
-    sym (le-leb (length listed) c.args.room (omega (arith, at.invariant.2)))
+returns-else-most-room c =
+    let within : Within = c.args.within in
+    let whole : after_of within.choice (within_of within.rule within.bounds.now) ≡ within_of within.rule within.bounds.now =
+    rw c.requires (from_zero within.bounds.now.priorities (λ choice. (within_answer within.rule (bounds_lent within.bounds.now) choice).yes) within.levels) in
+    none_past _ _ c.nth.result c.is_none.result (nth_from_yields_List c.nth.result c.nth.new.self c.args.room c.nth.ensures.ran (YieldsList-from_first (λ x. x) (λ s. after_of s.choice (within_of s.rule s.bounds.now)) _ whole)) c.is_none.ensures

@@ -6,48 +6,41 @@ use Prim.Native.Nat.{ℕ}
 use native.Mathlib.Omega.{arith}
 use borrow.Author.Tests.{leb-true, leb-false}
 use lib.ListN.{length}
-use Rattle.analysis.specs.Bounds.Within.{bounds_in}
+use Rattle.places.proofs.Answered.{ok_answered, err_answered}
 use Rattle.choices.proofs.Listed.{room-short, room_fits}
 use Rattle.choices.specs.Answers.{list_from, leaves_from}
 use Rattle.choices.specs.Stepping.{within_of}
 use Rattle.choices.proofs.lister.put_list.Goals as goal
 
-pub fits-requires : goal.fits-requires
-fits-requires c = record {
-  few = c.requires.few;
-  levels = c.requires.levels;
-  most = c.requires.most;
-}
-
-pub fill-entries-requires : goal.fill-entries-requires
-fill-entries-requires c =
-    let listed : List (List ℕ) = within_of c.args.rule (bounds_in 0 c.args.count c.args.priorities.now c.args.backups.now c.args.limits.now) in
+pub fill-requires : goal.fill-requires
+fill-requires c =
+    let listed : List (List ℕ) = within_of c.args.within.rule c.args.within.bounds.now in
     let roomy : 4 * length listed ≤ length c.args.out.now = (
     let room = leb-true (length listed) (length c.args.out.now / 4) (sym c.fits.ensures ∙ c.if-fits.true) in
     omega (arith, room)
     ) in
     record {
-      levels = c.requires.levels;
+      start = c.requires;
       room = roomy;
     }
 
 pub returns-then-fits : goal.returns-then-fits
 unfolding leaves_from list_from
 returns-then-fits c =
-    let listed : List (List ℕ) = within_of c.args.rule (bounds_in 0 c.args.count c.args.priorities.now c.args.backups.now c.args.limits.now) in
+    let listed : List (List ℕ) = within_of c.args.within.rule c.args.within.bounds.now in
     let roomy : 4 * length listed ≤ length c.args.out.now = (
     let room = leb-true (length listed) (length c.args.out.now / 4) (sym c.fits.ensures ∙ c.if-fits.true) in
     omega (arith, room)
     ) in
     let fine = room_fits 0 listed c.args.out.now refl roomy in
-    let put = c.fill-entries.ensures in
-    record { answer = simp (fine, put.number); content = simp fine put.content }
+    let put = c.fill.ensures in
+    record { answer = ok_answered _ _ fine (simp (fine, put.number)); content = simp fine put.content }
 
-pub returns : goal.returns
+pub returns-else-fits : goal.returns-else-fits
 unfolding leaves_from list_from
-returns c =
-    let listed : List (List ℕ) = within_of c.args.rule (bounds_in 0 c.args.count c.args.priorities.now c.args.backups.now c.args.limits.now) in
+returns-else-fits c =
+    let listed : List (List ℕ) = within_of c.args.within.rule c.args.within.bounds.now in
     let room = leb-false (length listed) (length c.args.out.now / 4) (sym c.fits.ensures ∙ c.if-fits.false) in
     let short : length c.args.out.now < 4 * length listed = omega (arith, room) in
     let refused = room-short 0 listed c.args.out.now refl short in
-    record { answer = simp refused; content = simp refused }
+    record { answer = err_answered _ _ (sym refused); content = simp refused }

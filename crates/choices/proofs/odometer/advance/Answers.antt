@@ -1,30 +1,37 @@
 -- `choices::odometer::advance` meets its contract: the choices within the bounds are those that meet. Assumes nothing.
-use Prim.Native.Nat.{ℕ}
-use mathlib.Core.Path.{ap, subst, ◌∙◌}
-use mathlib.Core.List.{List}
+use Rattle.std.proofs.Common.{ℕ, List, slice_get, sym, ap, ◌∙◌}
+use Rattle.places.proofs.Answered.{good_of, value_of, passed_as, ok_answered, exit_err}
+use Rattle.analysis.proofs.Laws.Bounds.Meeting.{bounds-refusal}
 use Rattle.choices.specs.Choices.{sift}
 use Rattle.choices.specs.Order.{after_of}
-use Rattle.choices.specs.Stepping.{Arrived}
 use Rattle.choices.proofs.Onward.{starts_in}
 use Rattle.choices.proofs.Advancing.{came-to-end}
-use Rattle.choices.proofs.Bounded.{bounds-none, Bounding, bounding}
+use Rattle.choices.proofs.Bounded.{bounds-none, bounding}
 use Rattle.choices.proofs.odometer.advance.Goals as goal
 
-pub returns-then-bounds-eq0 : goal.returns-then-bounds-eq0
-unfolding after_of sift
-returns-then-bounds-eq0 c =
-    came-to-end (ap (after_of c.args.choice.now) (bounds-none c.args.rule c.args.table c.requires.judged c.bounds_of-bounds.result c.bounds_of-bounds.ensures c.if-bounds-eq0.true))
+pub returns-in_err-bounds : goal.returns-in_err-bounds
+returns-in_err-bounds c = exit_err _ c.from_residual.ensures ∙ passed_as _ _ _ c.in_err-bounds.ensures (bounds-refusal _ _)
 
 pub go_on-requires : goal.go_on-requires
 go_on-requires c =
-    let known : Bounding c.args.rule c.args.table c.requires.judged c.bounds_of-bounds.result = bounding c.args.rule c.args.table c.requires.judged c.bounds_of-bounds.result c.bounds_of-bounds.ensures c.if-bounds-eq0.false in
+    let told = c.in_ok-bounds.ensures in
+    let fine = sym (bounds-refusal c.args.rule c.args.table) ∙ good_of _ _ told in
+    let known = bounding c.args.rule c.args.table fine (sym c.in-Some.is ∙ value_of _ _ told) in
     record {
       levels = known.levels;
-      room = c.requires.room;
-      allowed = ap (λ (ps : List ℕ). starts_in ps c.args.choice.now) known.own ∙ c.requires.allowed;
+      allowed = ap (λ (ps : List ℕ). starts_in ps c.args.choice) known.own ∙ c.requires;
     }
 
-pub returns : goal.returns
-returns c =
-    let known : Bounding c.args.rule c.args.table c.requires.judged c.bounds_of-bounds.result = bounding c.args.rule c.args.table c.requires.judged c.bounds_of-bounds.result c.bounds_of-bounds.ensures c.if-bounds-eq0.false in
-    subst (λ (list : List (List ℕ)). Arrived (after_of c.args.choice.now list) c.go_on.result c.go_on.new.choice) known.same c.go_on.ensures
+pub returns-in-Some : goal.returns-in-Some
+returns-in-Some c =
+    let told = c.in_ok-bounds.ensures in
+    let fine = sym (bounds-refusal c.args.rule c.args.table) ∙ good_of _ _ told in
+    let known = bounding c.args.rule c.args.table fine (sym c.in-Some.is ∙ value_of _ _ told) in
+    ok_answered _ _ fine (c.go_on.ensures ∙ ap (λ (list : List (List ℕ)). slice_get (after_of c.args.choice list) 0) known.same)
+
+pub returns-in-None : goal.returns-in-None
+unfolding after_of sift
+returns-in-None c =
+    let told = c.in_ok-bounds.ensures in
+    let fine = sym (bounds-refusal c.args.rule c.args.table) ∙ good_of _ _ told in
+    ok_answered _ _ fine (came-to-end (ap (after_of c.args.choice) (bounds-none c.args.rule c.args.table fine (sym c.in-None.is ∙ value_of _ _ told))))

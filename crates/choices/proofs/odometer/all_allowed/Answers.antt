@@ -1,51 +1,20 @@
--- `choices::odometer::all_allowed` meets its contract: those passed are allowed. Assumes nothing.
-use Prim.Native.Nat.{ℕ, ◌+◌, ◌-◌}
-use mathlib.Core.Path.{◌≡◌, sym, ap, ap₂, ◌∙◌}
-use mathlib.Core.Bool.{Bool, not, ◌&&◌, ◌||◌}
-use native.Mathlib.Omega.{arith}
-use mathlib.Core.List.{List, []}
-use lib.Dec.{ltb}
-use lib.ListN.{get_or, drop, drop_of_length-le}
-use Rattle.analysis.specs.Common.Allowed.{all_allowed}
-use Rattle.analysis.proofs.Laws.Common.Choice.{allowed_at}
-use Rattle.choices.proofs.Allowed.{allowed-told}
-use borrow.Author.Rules.{rules}
+-- `choices::odometer::all_allowed` meets its contract: the chain looks at each record's priority and entry. Assumes nothing.
+use Rattle.std.proofs.Common.{rules, tests, ℕ, List, [], ◌∷◌, length, Bool, ◌&&◌, ◌≡◌, refl, ap, ◌∙◌, arith}
+use Rattle.std.specs.List.{list_all, zip}
+use Rattle.std.proofs.lemmas.Iterator.{YieldsList-from_slice, YieldsList-from_zip}
+use Rattle.std.proofs.lemmas.Iterator.Consumers.{YieldsList-at}
+use Rattle.std.proofs.lemmas.Iterator.Search.{all_from_yields_List}
+use Rattle.analysis.specs.Common.Allowed.{is_allowed, all_allowed}
 use Rattle.choices.proofs.odometer.all_allowed.Goals as goal
 
-pub returns-then-entry-first_fault : goal.returns-then-entry-first_fault
-returns-then-entry-first_fault c =
-    let priorities : List ℕ = c.args.priorities.now in
-    let entries : List ℕ = c.args.choice.now in
-    let looked : ℕ = c.loop-place.place in
-    let from_place : all_allowed priorities entries ≡ (not (ltb (get_or entries looked 0) c.first_fault.result || ltb (get_or priorities looked 0) (get_or entries looked 0)) && all_allowed (drop (looked + 1) priorities) (drop (looked + 1) entries)) = (
-    let here = c.loop-place-test.true in
-    let p = get_or priorities looked 0 in
-    let q = get_or entries looked 0 in
-    c.loop-place.invariant.1 ∙ allowed_at priorities entries looked (omega (arith, here, c.requires.whole)) (omega (arith, here, c.requires.room))
-    ∙ ap (λ (b : Bool). b && all_allowed (drop (looked + 1) priorities) (drop (looked + 1) entries))
-    (sym (allowed-told p q) ∙ ap (λ (first : ℕ). not (ltb q first || ltb p q)) (sym c.first_fault.ensures))
-    ) in
-    sym (from_place ∙ simp c.if-entry-first_fault.true)
-
-pub loop-place-preserved : goal.loop-place-preserved
-loop-place-preserved c =
-    let priorities : List ℕ = c.args.priorities.now in
-    let entries : List ℕ = c.args.choice.now in
-    let looked : ℕ = c.loop-place.place in
-    let from_place : all_allowed priorities entries ≡ (not (ltb (get_or entries looked 0) c.first_fault.result || ltb (get_or priorities looked 0) (get_or entries looked 0)) && all_allowed (drop (looked + 1) priorities) (drop (looked + 1) entries)) = (
-    let here = c.loop-place-test.true in
-    let p = get_or priorities looked 0 in
-    let q = get_or entries looked 0 in
-    c.loop-place.invariant.1 ∙ allowed_at priorities entries looked (omega (arith, here, c.requires.whole)) (omega (arith, here, c.requires.room))
-    ∙ ap (λ (b : Bool). b && all_allowed (drop (looked + 1) priorities) (drop (looked + 1) entries))
-    (sym (allowed-told p q) ∙ ap (λ (first : ℕ). not (ltb q first || ltb p q)) (sym c.first_fault.ensures))
-    ) in
-    (search rules, from_place ∙ simp c.if-entry-first_fault.false)
+each_allowed : (priorities choice : List ℕ) → length priorities ≡ length choice → list_all (λ (p : ℕ × ℕ). is_allowed p.0 p.1) (zip priorities choice) ≡ all_allowed priorities choice
+unfolding all_allowed
+each_allowed [] [] same = refl
+each_allowed [] (q ∷ choice) same = absurd (omega arith)
+each_allowed (p ∷ priorities) [] same = absurd (omega arith)
+each_allowed (p ∷ priorities) (q ∷ choice) same = ap (λ (b : Bool). is_allowed p q && b) (each_allowed priorities choice (omega arith))
 
 pub returns : goal.returns
-unfolding all_allowed
 returns c =
-    let at = c.loop-place in
-    let none : drop at.place c.args.priorities.now ≡ [] = drop_of_length-le c.args.priorities.now {i = at.place} (omega (arith, c.requires.whole)) in
-    let none' : drop at.place c.args.choice.now ≡ [] = drop_of_length-le c.args.choice.now {i = at.place} (omega (arith, c.requires.room)) in
-    sym (at.invariant.1 ∙ ap₂ all_allowed none none')
+    all_from_yields_List (λ (p : ℕ × ℕ). is_allowed p.0 p.1) c.all.new.self _ _ c.all.ensures.ran (YieldsList-from_zip (YieldsList-at c.zip.ensures.first (YieldsList-from_slice c.args.priorities.now c.iter.ensures.rest)) (YieldsList-from_slice c.args.choice.now c.zip.ensures.second.0)) (λ x b q k. search (rules, tests))
+    ∙ each_allowed c.args.priorities.now c.args.choice.now (omega arith)

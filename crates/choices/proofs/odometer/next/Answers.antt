@@ -9,27 +9,18 @@ use Rattle.choices.specs.Stepping.{Carried}
 use Rattle.choices.proofs.Carrying.{Carrying, carrying-start, entry_kept, carrying-more, carrying-found, next-carried, next-first}
 use Rattle.choices.proofs.odometer.next.Goals as goal
 
-pub all_zero-requires : goal.all_zero-requires
-all_zero-requires c = c.requires.room
-
-pub put_first-requires : goal.put_first-requires
-put_first-requires c = record {
-  whole = c.requires.whole;
-  room = c.requires.room;
-}
-
 pub returns-then-all_zero : goal.returns-then-all_zero
 returns-then-all_zero c =
     let zero = sym c.all_zero.ensures ∙ c.if-all_zero.true in
     let said = next-first c.args.priorities.now c.args.choice.now zero in
     record {
       answer = ap (λ (r : Carried). r.rose) (sym said);
-      left = c.put_first.ensures ∙ ap (λ (r : Carried). r.entries) (sym said);
+      left = c.first_choice.ensures ∙ ap (λ (r : Carried). r.entries) (sym said);
     }
 
 pub loop-place-init : goal.loop-place-init
 loop-place-init c =
-    carrying-start _ _ c.requires.whole c.requires.room
+    carrying-start _ _ c.told-priorities c.told-choice
 
 pub bounds-choice-place : goal.bounds-choice-place
 bounds-choice-place c = omega (arith, c.loop-place.invariant.reached)
@@ -57,9 +48,9 @@ returns-then-can_rise c =
     let at = c.loop-place in
     let k = at.place - 1 in
     let zero = sym c.all_zero.ensures ∙ c.if-all_zero.false in
-    let kept = entry_kept _ _ c.requires.whole c.requires.room _ k behind in
+    let kept = entry_kept _ _ c.told-priorities c.told-choice _ k behind in
     let rises = ltb-true (get_or at.choice k 0) (get_or priorities k 0) (sym c.can_rise.ensures.same ∙ c.if-can_rise.true) in
-    let found = carrying-found _ _ c.requires.whole c.requires.room _ k behind (subst (λ (n : ℕ). n < get_or priorities k 0) kept rises) in
+    let found = carrying-found _ _ c.told-priorities c.told-choice _ k behind (subst (λ (n : ℕ). n < get_or priorities k 0) kept rises) in
     let risen : suc (get_or choice k 0) ≡ get_or at.choice k 0 + 1 = omega (arith, kept) in
     let said = next-carried priorities choice zero ∙ found ∙ ap (λ (q : ℕ). record { rose = true; entries = set at.choice k q }) risen in
     record {
@@ -82,10 +73,10 @@ loop-place-preserved c =
     let priorities = c.args.priorities.now in
     let at = c.loop-place in
     let k = at.place - 1 in
-    let kept = entry_kept _ _ c.requires.whole c.requires.room _ k behind in
+    let kept = entry_kept _ _ c.told-priorities c.told-choice _ k behind in
     let full = ltb-false (get_or at.choice k 0) (get_or priorities k 0) (sym c.can_rise.ensures.same ∙ c.if-can_rise.false) in
     subst (λ (q : ℕ). Carrying priorities c.args.choice.now (set at.choice k q) k) (sym c.first_fault.ensures)
-    (carrying-more _ _ c.requires.whole c.requires.room _ k behind (subst (λ (n : ℕ). get_or priorities k 0 ≤ n) kept full))
+    (carrying-more _ _ c.told-priorities c.told-choice _ k behind (subst (λ (n : ℕ). get_or priorities k 0 ≤ n) kept full))
 
 pub returns : goal.returns
 returns c =

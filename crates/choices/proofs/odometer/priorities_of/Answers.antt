@@ -1,5 +1,5 @@
 -- `choices::odometer::priorities_of` meets its contract: before each turn the places below are filled. Assumes nothing.
-use Prim.Native.Nat.{ℕ, ◌-◌}
+use Prim.Native.Nat.{ℕ}
 use mathlib.Core.Path.{◌≡◌, sym, ap, ◌∙◌}
 use mathlib.Core.List.{List}
 use native.Mathlib.Omega.{arith}
@@ -27,5 +27,5 @@ pub returns : goal.returns
 unfolding priorities_of
 returns c small =
     let table = c.args.table in
-    let all : c.loop-place.place ≡ table.count = omega (arith, c.few-count.ensures.1 small) in
+    let all : c.loop-place.place ≡ table.count = omega (arith, c.min-count.ensures, small) in
     c.loop-place.invariant.1 ∙ ap (λ (n : ℕ). filled_below (priority_of table.records) n (replicate 8 0)) all

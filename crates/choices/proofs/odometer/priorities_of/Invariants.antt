@@ -1,5 +1,5 @@
 -- `choices::odometer::priorities_of` meets its contract: before each turn the places below are filled. Assumes nothing.
-use Prim.Native.Nat.{ℕ, ◌≤◌, ◌-◌}
+use Prim.Native.Nat.{ℕ, ◌≤◌}
 use mathlib.Core.Path.{◌≡◌}
 use mathlib.Core.List.{List}
 use lib.ListN.{replicate}
@@ -14,6 +14,3 @@ priority_of records k = (record_at records k).priority
 
 abbrev pub invariant-loop-place : goal.invariant-loop-place
 invariant-loop-place l = (l.place ≤ l.count) × (l.priorities ≡ filled_below (priority_of l.table.records) l.place (replicate 8 0))
-
-abbrev pub decreases-loop-place : goal.decreases-loop-place
-decreases-loop-place l = l.count - l.place

@@ -1,5 +1,5 @@
 -- `cores::fitting::first_fit` meets its contract: before each turn every record before the place has its core. Assumes nothing.
-use Prim.Native.Nat.{ℕ, ◌≤◌, ◌-◌}
+use Prim.Native.Nat.{ℕ, ◌≤◌}
 use mathlib.Core.Path.{◌≡◌, refl, sym, ap₂, subst, ◌∙◌}
 use mathlib.Core.List.{List}
 use native.Mathlib.Omega.{arith}
@@ -21,34 +21,28 @@ overflow_add-result c =
     let few : c.args.table.count ≤ 8 = (good-table c.args.table c.requires.good).count.1 in
     omega (arith, few)
 
-pub returns-then-core-eq0 : goal.returns-then-core-eq0
-returns-then-core-eq0 c =
+pub returns-in-None : goal.returns-in-None
+returns-in-None c =
     let few : c.args.table.count ≤ 8 = (good-table c.args.table c.requires.good).count.1 in
-    let core-here : c.lowest-core.result ≡ core_of (own_tasks c.args.table) c.args.number c.loop-place.place = lowest-given (own_tasks c.args.table) c.args.number _ (omega (arith, few)) _ c.loop-place.invariant.1 _ c.lowest-core.ensures in
     let at = c.loop-place in
-    let table = c.args.table in
-    placing-none (own_tasks table) _ at.place c.loop-place-test.true at.invariant.2 (sym core-here ∙ c.if-core-eq0.true)
+    let here : 0 ≡ core_of (own_tasks c.args.table) c.args.number at.place = lowest-given (own_tasks c.args.table) c.args.number _ (omega (arith, few)) _ at.invariant.1 _ (sym c.in-None.ensures.none) in
+    placing-none (own_tasks c.args.table) _ at.place c.loop-place-test.true at.invariant.2 (sym here)
 
 pub bounds-cores-place : goal.bounds-cores-place
 bounds-cores-place c =
     let few : c.args.table.count ≤ 8 = (good-table c.args.table c.requires.good).count.1 in
     omega (arith, few)
 
-pub overflow_add-place : goal.overflow_add-place
-overflow_add-place c =
-    let few : c.args.table.count ≤ 8 = (good-table c.args.table c.requires.good).count.1 in
-    omega (arith, few)
-
 pub loop-place-preserved : goal.loop-place-preserved
 loop-place-preserved c =
     let few : c.args.table.count ≤ 8 = (good-table c.args.table c.requires.good).count.1 in
-    let core-here : c.lowest-core.result ≡ core_of (own_tasks c.args.table) c.args.number c.loop-place.place = lowest-given (own_tasks c.args.table) c.args.number _ (omega (arith, few)) _ c.loop-place.invariant.1 _ c.lowest-core.ensures in
+    let core-here : c.in-Some.core ≡ core_of (own_tasks c.args.table) c.args.number c.loop-place.place = lowest-given (own_tasks c.args.table) c.args.number _ (omega (arith, few)) _ c.loop-place.invariant.1 _ c.in-Some.ensures.some.1 in
     let at = c.loop-place in
     let given_to = c.args in
     let s = own_tasks given_to.table in (
       omega arith,
       ap₂ (λ (l : List ℕ) (core : ℕ). set l at.place core) at.invariant.1 core-here ∙ sym (fill_more (core_of s given_to.number) at.place (replicate 8 0)),
-      fitted-more s given_to.number at.place at.invariant.2 (λ none. c.if-core-eq0.false (core-here ∙ none)),
+      fitted-more s given_to.number at.place at.invariant.2 (λ none. absurd (omega (arith, c.in-Some.ensures.some.0, core-here ∙ none))),
     )
 
 pub returns : goal.returns

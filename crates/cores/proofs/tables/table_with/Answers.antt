@@ -1,5 +1,5 @@
 -- `cores::tables::table_with` meets its contract: before each turn the records below that are of the core stand at the start. Assumes nothing.
-use Prim.Native.Nat.{ℕ, suc, ◌+◌, ◌-◌}
+use Prim.Native.Nat.{ℕ, suc, ◌+◌}
 use mathlib.Core.Path.{◌≡◌, refl, sym, ap, subst, ◌∙◌}
 use native.Mathlib.Omega.{arith}
 use borrow.Author.Rules.{rules}
@@ -8,7 +8,6 @@ use lib.ListN.{set, length-set}
 use Rattle.sheet.specs.declared.Record.{Record}
 use Rattle.sheet.specs.Layout.{record_at, no_record}
 use Rattle.cores.specs.Renumbered.{renumbered, core_tasks, tasks_at}
-use Rattle.cores.specs.FirstFit.{joins}
 use Rattle.cores.proofs.Picking.{Gathered, gather_none, gather-next, one_if, byte_one, byte_small}
 use Rattle.cores.proofs.tables.table_with.Invariants.{meant, value}
 use Rattle.cores.proofs.tables.table_with.Goals as goal

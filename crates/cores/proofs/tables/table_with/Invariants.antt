@@ -1,5 +1,5 @@
 -- `cores::tables::table_with` meets its contract: before each turn the records below that are of the core stand at the start. Assumes nothing.
-use Prim.Native.Nat.{ℕ, suc, ◌≤◌, ◌-◌}
+use Prim.Native.Nat.{ℕ, suc, ◌≤◌}
 use mathlib.Core.Path.{◌≡◌}
 use mathlib.Core.Bool.{Bool}
 use mathlib.Core.List.{List}
@@ -22,6 +22,3 @@ value records cores place core k = renumbered (record_at records k) (priority_am
 abbrev pub invariant-loop-other : goal.invariant-loop-other
 invariant-loop-other l =
     (l.other ≤ suc l.place) × (length l.records ≡ 8) × (l.count ≤ l.other) × Gathered (value l.table.records l.cores l.place l.core) no_record (meant l.cores l.place l.core) l.records l.count l.other
-
-abbrev pub decreases-loop-other : goal.decreases-loop-other
-decreases-loop-other l = suc l.place - l.other

@@ -1,19 +1,21 @@
 -- `fidhaqooban::choosing::list_by` meets its contract. Refused, the output is as it was. Assumes nothing.
-use Prim.Native.Nat.{ℕ}
-use mathlib.Core.Path.{ap, ◌∙◌}
+use mathlib.Core.Path.{◌∙◌}
 use native.Mathlib.Omega.{arith}
-use Rattle.fidhaqooban.specs.Numbers.{answer_of}
 use Rattle.fidhaqooban.proofs.Minus.{handed}
-use Rattle.fidhaqooban.proofs.Chosen.{list-room, list-is, list-leaves}
+use Rattle.fidhaqooban.proofs.Chosen.{list-room, list-is, list-leaves, list-refused}
 use Rattle.fidhaqooban.proofs.choosing.list_by.Goals as goal
 
-pub answer-requires : goal.answer-requires
-answer-requires c =
-    omega (arith, list-room c.args.rule _ _ c.read-reading.ensures _ _ c.list_by-listing.ensures.answer)
+pub returns-in-Err : goal.returns-in-Err
+returns-in-Err c =
+    let told = list-refused c.args.rule c.args.sheet.now c.in-Err.ensures c.args.out.now in
+    record { answer = handed c.refused.result c.refused.type_inv ∙ c.refused.ensures ∙ told.0; left = told.1 }
+
+pub number-requires : goal.number-requires
+number-requires c = list-room c.args.rule c.args.sheet.now c.in-Ok.ensures c.args.out.now c.list_by.ensures.answer (omega arith)
 
 pub returns : goal.returns
 returns c =
-    let rule = c.args.rule in record {
-      answer = handed c.answer.result c.answer.type_inv ∙ c.answer.ensures ∙ ap (λ (r : ℕ). answer_of r c.list_by-listing.result.entries) c.first-refusal.ensures ∙ list-is rule _ _ c.read-reading.ensures _ _ c.list_by-listing.ensures.answer;
-      left = c.list_by-listing.ensures.left ∙ list-leaves rule _ _ c.read-reading.ensures _;
+    record {
+      answer = handed c.number.result c.number.type_inv ∙ c.number.ensures ∙ list-is c.args.rule c.args.sheet.now c.in-Ok.ensures c.args.out.now c.list_by.ensures.answer;
+      left = c.list_by.ensures.left ∙ list-leaves c.args.rule c.args.sheet.now c.in-Ok.ensures c.args.out.now;
     }

@@ -1,15 +1,18 @@
 -- `fidhaqooban::given::count` meets its contract. Assumes nothing.
-use mathlib.Core.Path.{ap, ◌∙◌}
-use Rattle.sheet.specs.declared.Reading.{Reading}
+use mathlib.Core.Path.{sym, ap, ◌∙◌}
+use Rattle.places.proofs.Answered.{is_ok_of}
+use Rattle.sheet.specs.Answers.{read_answer}
+use Rattle.sheet.specs.declared.Table.{Table}
 use Rattle.sheet.specs.Layout.{table_of}
-use Rattle.sheet.proofs.Demands.{read-good}
-use Rattle.fidhaqooban.proofs.Answered.{count-read}
+use Rattle.fidhaqooban.proofs.Answered.{table-read, count-read}
 use Rattle.fidhaqooban.proofs.given.count.Goals as goal
+
+pub unwrap-table-requires : goal.unwrap-table-requires
+unfolding read_answer
+unwrap-table-requires c = is_ok_of _ _ c.requires _ c.read.ensures
 
 pub returns : goal.returns
 unfolding table_of
 returns c =
-    record {
-      answer = ap (λ (r : Reading). r.table.count) (c.read-reading.ensures ∙ read-good _ c.requires);
-      bounded = count-read _ _ c.read-reading.ensures;
-    }
+    let read = sym c.unwrap-table.ensures ∙ c.read.ensures in
+    record { answer = ap (λ (t : Table). t.count) (table-read c.args.sheet.now read); bounded = count-read c.args.sheet.now read }

@@ -1,5 +1,4 @@
 -- `fidhaqooban::locking::resources` meets its contract: before each turn the resources below are filled. Assumes nothing.
-use Prim.Native.Nat.{◌-◌}
 use mathlib.Core.Path.{ap, ◌∙◌}
 use lib.ListN.{replicate}
 use Rattle.places.specs.Places.{filled_below}

@@ -1,5 +1,4 @@
 -- `fidhaqooban::locking::starts` meets its contract: before each turn the jobs below are filled. Assumes nothing.
-use Prim.Native.Nat.{◌-◌}
 use mathlib.Core.Path.{ap, ◌∙◌}
 use lib.ListN.{replicate}
 use mathlib.Core.List.{List}

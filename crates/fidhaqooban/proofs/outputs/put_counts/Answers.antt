@@ -1,28 +1,9 @@
 -- `fidhaqooban::outputs::put_counts` meets its contract. Assumes nothing.
-use mathlib.Core.Path.{refl}
-use native.Mathlib.Omega.{arith}
-use lib.ListN.{length-set}
+use Rattle.std.proofs.Common.{ℕ, List, ◌++◌, drop, sym, ap, ◌∙◌}
+use Rattle.std.proofs.lemmas.List.Edits.{sets-eq}
 use Rattle.fidhaqooban.specs.Numbers.{count_numbers}
 use Rattle.fidhaqooban.proofs.outputs.put_counts.Goals as goal
 
-pub bounds-out-1 : goal.bounds-out-1
-bounds-out-1 c = simp length-set (omega arith)
-
-pub bounds-out-2 : goal.bounds-out-2
-bounds-out-2 c = simp length-set (omega arith)
-
-pub bounds-out-3 : goal.bounds-out-3
-bounds-out-3 c = simp length-set (omega arith)
-
-pub bounds-out-4 : goal.bounds-out-4
-bounds-out-4 c = simp length-set (omega arith)
-
-pub bounds-out-5 : goal.bounds-out-5
-bounds-out-5 c = simp length-set (omega arith)
-
-pub bounds-out-6 : goal.bounds-out-6
-bounds-out-6 c = simp length-set (omega arith)
-
 pub returns : goal.returns
 unfolding count_numbers
-returns c = refl
+returns c = ap (λ (l : List ℕ). l ++ drop 7 c.args.out.now) c.copy_from_slice.ensures.after ∙ sym (sets-eq (count_numbers c.args.counts) c.args.out.now 0 c.requires)

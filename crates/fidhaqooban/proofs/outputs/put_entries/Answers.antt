@@ -1,6 +1,6 @@
 -- `fidhaqooban::outputs::put_entries` meets its contract: before each turn the numbers below the place are put. Assumes nothing.
 use mir.Syntax.{w32}
-use Prim.Native.Nat.{ℕ, ◌/◌, ◌%◌, ◌*◌, ◌-◌}
+use Prim.Native.Nat.{ℕ, ◌/◌, ◌%◌, ◌*◌}
 use mathlib.Core.Path.{◌≡◌, refl, sym, ap, ap₂, ◌∙◌}
 use mathlib.Core.List.{List}
 use native.Mathlib.Omega.{arith}

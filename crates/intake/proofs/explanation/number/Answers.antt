@@ -1,13 +1,13 @@
 -- The place that is told is that of a record, or 0. Assumes nothing.
-use Rattle.std.proofs.Common.{◌≡◌, ℕ, ◌+◌, ◌≤◌, ◌<◌, refl, ap, Bool, true, false, inl, inr, arith}
+use Rattle.std.proofs.Common.{◌≡◌, ℕ, ◌+◌, ◌≤◌, ◌<◌, refl, sym, ap, Bool, true, false, inl, inr, arith}
 use native.Mathlib.Decide.{dec_lt}
 use Rattle.places.proofs.Refusals.{first_of}
 use Rattle.sheet.specs.declared.Table.{Table}
-use Rattle.sheet.specs.declared.Judged.{Judged}
 use Rattle.sheet.specs.Rules.{outside, figures_refusal, table_refusal, broken_place}
 use Rattle.sheet.specs.Answers.{judged_answer}
 use Rattle.sheet.proofs.Cases.{within, figures-2}
 use Rattle.sheet.proofs.Demands.{broken-record, no-broken-record}
+use Rattle.sheet.proofs.Told.{broken-none, broken-place}
 use Rattle.intake.proofs.explanation.number.Goals as goal
 
 -- a table that is refused for a record has a count that is 8 at most
@@ -31,12 +31,18 @@ low t = below (dec_lt (table_refusal t) 6)
     below (yes h) = omega (arith, no-broken-record t (inl h))
     below (no h) = above (omega arith) (dec_lt 10 (table_refusal t))
 
-place : (judged : Judged) (t : Table) → judged ≡ judged_answer t → judged.place ≡ broken_place t
-unfolding judged_answer
-place judged t e = ap (λ (r : Judged). r.place) e
+-- where no rule is broken it is the first
+none : (t : Table) → table_refusal t ≡ 0 → broken_place t ≡ 0
+none t good = no-broken-record t (inl (omega (arith, good)))
 
 pub overflow_add-result : goal.overflow_add-result
-overflow_add-result c = omega (arith, place _ c.args.table c.judge_table_at.ensures, low c.args.table)
+unfolding judged_answer
+overflow_add-result c = omega (arith, broken-place _ c.in-Err.ensures, low c.args.table)
 
-pub returns : goal.returns
-returns c = ap (λ (n : ℕ). n + 1) (place _ c.args.table c.judge_table_at.ensures)
+pub returns-in-Err : goal.returns-in-Err
+unfolding judged_answer
+returns-in-Err c = ap (λ (n : ℕ). n + 1) (broken-place _ c.in-Err.ensures)
+
+pub returns-in-Ok : goal.returns-in-Ok
+unfolding judged_answer
+returns-in-Ok c = ap (λ (n : ℕ). n + 1) (sym (none c.args.table (broken-none _ c.in-Ok.ensures)))

@@ -4,4 +4,4 @@ use Rattle.lines.proofs.finding.cell_of.Goals as goal
 
 pub returns : goal.returns
 unfolding cell_of
-returns c = simp (← c.start_of.ensures, ← c.end_of.ensures) c.part.ensures
+returns c = simp (← c.extent_of-at.ensures.start, ← c.extent_of-at.ensures.end) c.part.ensures

@@ -4,7 +4,7 @@ use Rattle.lines.proofs.line_kinds.early_read.Goals as goal
 
 pub returns-then-is_lone : goal.returns-then-is_lone
 unfolding early_read
-returns-then-is_lone c = simp (← c.is_lone.ensures, c.if-is_lone.true, ← c.start_of.ensures, ← c.end_of.ensures) c.setting_to.ensures
+returns-then-is_lone c = simp (← c.is_lone.ensures, c.if-is_lone.true, ← c.extent_of.ensures.start, ← c.extent_of.ensures.end) c.setting_to.ensures
 
 pub returns-then-is_named_line : goal.returns-then-is_named_line
 unfolding early_read

@@ -8,4 +8,4 @@ returns-then-is_given c = simp (← c.is_given.ensures, c.if-is_given.true, ← 
 
 pub returns : goal.returns
 unfolding first_read
-returns c = simp (← c.is_given.ensures, c.if-is_given.false, ← c.start_of.ensures, ← c.end_of.ensures) c.fails.ensures
+returns c = simp (← c.is_given.ensures, c.if-is_given.false, ← c.extent_of.ensures.start, ← c.extent_of.ensures.end) c.fails.ensures

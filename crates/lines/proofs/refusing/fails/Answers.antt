@@ -1,7 +1,7 @@
 -- `lines::refusing::fails` meets its contract. Assumes nothing.
-use Rattle.lines.specs.Troubles.{fails}
+use Rattle.lines.specs.Troubles.{fails, with_trouble}
 use Rattle.lines.proofs.refusing.fails.Goals as goal
 
 pub returns : goal.returns
-unfolding fails
-returns c = simp (c.with_trouble.ensures, c.after.ensures, c.excerpt_of.ensures, c.part.ensures)
+unfolding fails with_trouble
+returns c = simp (c.after.ensures, c.excerpt_of.ensures, c.part.ensures)

@@ -4,8 +4,8 @@ use Rattle.lines.proofs.setting_lines.named_read.Goals as goal
 
 pub returns-then-is_given : goal.returns-then-is_given
 unfolding named_read
-returns-then-is_given c = simp (← c.is_given.ensures, c.if-is_given.true, ← c.start_of.ensures, ← c.end_of.ensures) c.fails.ensures
+returns-then-is_given c = simp (← c.is_given.ensures, c.if-is_given.true, ← c.extent_of.ensures.start, ← c.extent_of.ensures.end) c.fails.ensures
 
 pub returns : goal.returns
 unfolding named_read
-returns c = simp (← c.is_given.ensures, c.if-is_given.false, ← c.start_of-2.ensures, ← c.end_of-2.ensures, ← c.setting_to-next.ensures) c.no_more.ensures
+returns c = simp (← c.is_given.ensures, c.if-is_given.false, ← c.extent_of-2.ensures.start, ← c.extent_of-2.ensures.end, ← c.setting_to-next.ensures) c.no_more.ensures

@@ -8,4 +8,4 @@ returns-then-is_refused-words c = simp (← c.is_refused.ensures, c.if-is_refuse
 
 pub returns : goal.returns
 unfolding no_more
-returns c = simp (← c.is_refused.ensures, c.if-is_refused-words.false, ← c.start_of.ensures, ← c.end_of.ensures) c.fails.ensures
+returns c = simp (← c.is_refused.ensures, c.if-is_refused-words.false, ← c.extent_of.ensures.start, ← c.extent_of.ensures.end) c.fails.ensures

@@ -4,4 +4,4 @@ use Rattle.lines.proofs.setting_lines.pair_read.Goals as goal
 
 pub returns : goal.returns
 unfolding pair_read
-returns c = simp (← c.start_of.ensures, ← c.end_of.ensures, ← c.setting_to-next.ensures) c.share_after.ensures
+returns c = simp (← c.extent_of.ensures.start, ← c.extent_of.ensures.end, ← c.setting_to-next.ensures) c.share_after.ensures

@@ -8,4 +8,4 @@ returns-then-is_refused c = simp (← c.is_refused.ensures, c.if-is_refused.true
 
 pub returns : goal.returns
 unfolding share_after
-returns c = simp (← c.is_refused.ensures, c.if-is_refused.false, ← c.start_of.ensures, ← c.end_of.ensures) c.setting_to.ensures
+returns c = simp (← c.is_refused.ensures, c.if-is_refused.false, ← c.extent_of.ensures.start, ← c.extent_of.ensures.end) c.setting_to.ensures

@@ -1,5 +1,4 @@
 -- `locks::bits::highest_user` meets its contract: before each turn the highest of the places below is known. Assumes nothing.
-use Prim.Native.Nat.{◌-◌}
 use mathlib.Core.Path.{◌∙◌}
 use Rattle.places.specs.Places.{highest_below}
 use Rattle.places.proofs.Turns.{last_turn, highest-turn}

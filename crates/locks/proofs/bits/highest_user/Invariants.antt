@@ -1,5 +1,5 @@
 -- `locks::bits::highest_user` meets its contract: before each turn the highest of the places below is known. Assumes nothing.
-use Prim.Native.Nat.{◌-◌, ◌≤◌}
+use Prim.Native.Nat.{◌≤◌}
 use mathlib.Core.Path.{◌≡◌}
 use Rattle.places.specs.Places.{highest_below}
 use Rattle.locks.specs.Bits.{has_bit}
@@ -7,6 +7,3 @@ use Rattle.locks.proofs.bits.highest_user.Given as goal
 
 abbrev pub invariant-loop-place : goal.invariant-loop-place
 invariant-loop-place l = (l.place ≤ 8) × (l.highest ≡ highest_below (has_bit l.users) l.place)
-
-abbrev pub decreases-loop-place : goal.decreases-loop-place
-decreases-loop-place l = 8 - l.place

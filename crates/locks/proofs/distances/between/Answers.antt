@@ -1,5 +1,5 @@
 -- `locks::distances::between` meets its contract: before each turn the places below are summed. Assumes nothing.
-use Prim.Native.Nat.{ℕ, ◌-◌}
+use Prim.Native.Nat.{ℕ}
 use mathlib.Core.Path.{ap, ◌∙◌}
 use mathlib.Core.Bool.{cond}
 use native.Mathlib.Omega.{arith}
@@ -7,7 +7,7 @@ use lib.Dec.{ltb}
 use Rattle.places.specs.Places.{sum_below}
 use Rattle.places.proofs.Turns.{last_turn, sum-turn}
 use Rattle.locks.specs.Jobs.{job_at}
-use Rattle.locks.specs.Distances.{distance, between}
+use Rattle.locks.specs.Distances.{between}
 use borrow.Author.Rules.{rules}
 use Rattle.locks.proofs.distances.between.Invariants.{each}
 use Rattle.locks.proofs.distances.between.Goals as goal

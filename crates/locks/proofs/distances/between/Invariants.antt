@@ -1,5 +1,5 @@
 -- `locks::distances::between` meets its contract: before each turn the places below are summed. Assumes nothing.
-use Prim.Native.Nat.{ℕ, ◌*◌, ◌-◌, ◌≤◌}
+use Prim.Native.Nat.{ℕ, ◌*◌, ◌≤◌}
 use mathlib.Core.Path.{◌≡◌}
 use mathlib.Core.Bool.{cond}
 use mathlib.Core.List.{List}
@@ -16,6 +16,3 @@ each limit phase period jobs place = cond (ltb (distance period phase (job_at jo
 
 abbrev pub invariant-loop-place : goal.invariant-loop-place
 invariant-loop-place l = (l.place ≤ l.count) × (l.sum ≡ sum_below (each l.limit l.phase l.period l.jobs) l.place) × (l.sum ≤ 4294967296 * l.place)
-
-abbrev pub decreases-loop-place : goal.decreases-loop-place
-decreases-loop-place l = l.count - l.place

@@ -1,11 +1,9 @@
 -- `locks::distances::nearest` meets its contract: before each turn the least of the places below is known. Assumes nothing.
-use Prim.Native.Nat.{◌-◌}
 use mathlib.Core.Path.{◌∙◌}
 use Rattle.places.specs.Places.{least_below}
 use Rattle.places.proofs.Turns.{last_turn, least-turn}
-use Rattle.locks.specs.Bits.{has_bit}
 use Rattle.locks.specs.Jobs.{job_at}
-use Rattle.locks.specs.Distances.{distance, nearest}
+use Rattle.locks.specs.Distances.{nearest}
 use borrow.Author.Rules.{rules}
 use Rattle.locks.proofs.distances.nearest.Invariants.{counts, far}
 use Rattle.locks.proofs.distances.nearest.Goals as goal

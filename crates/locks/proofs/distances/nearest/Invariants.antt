@@ -1,5 +1,5 @@
 -- `locks::distances::nearest` meets its contract: before each turn the least of the places below is known. Assumes nothing.
-use Prim.Native.Nat.{ℕ, ◌-◌, ◌≤◌}
+use Prim.Native.Nat.{ℕ, ◌≤◌}
 use mathlib.Core.Path.{◌≡◌}
 use mathlib.Core.Bool.{Bool}
 use mathlib.Core.List.{List}
@@ -19,6 +19,3 @@ far phase period jobs place = distance period phase (job_at jobs place).offset
 
 abbrev pub invariant-loop-place : goal.invariant-loop-place
 invariant-loop-place l = (l.place ≤ l.count) × (l.near ≡ least_below l.period (counts l.resource l.jobs) (far l.phase l.period l.jobs) l.place)
-
-abbrev pub decreases-loop-place : goal.decreases-loop-place
-decreases-loop-place l = l.count - l.place

@@ -1,26 +1,14 @@
--- `locks::judging::overlaps_earlier` meets its contract: before each turn the earlier places below are looked at. Assumes nothing.
-use Prim.Native.Nat.{◌-◌}
-use Rattle.places.specs.Places.{some_below}
-use Rattle.places.proofs.Turns.{last_turn, some_turn}
-use Rattle.locks.specs.Jobs.{job_at}
-use Rattle.locks.specs.Rules.{overlaps_earlier}
-use borrow.Author.Rules.{rules}
-use Rattle.locks.proofs.judging.overlaps_earlier.Invariants.{each}
+-- `locks::judging::overlaps_earlier` meets its contract: the chain looks at each earlier job. Assumes nothing.
+use Rattle.std.proofs.Common.{rules, tests, arith, ◌∙◌}
+use Rattle.std.proofs.lemmas.Iterator.{YieldsList-from_slice}
+use Rattle.std.proofs.lemmas.Iterator.Search.{any_from_yields_List}
+use Rattle.places.proofs.Chains.{some-listed}
+use Rattle.locks.specs.Jobs.{no_job, job_at}
+use Rattle.locks.specs.Rules.{overlap, overlaps_earlier}
 use Rattle.locks.proofs.judging.overlaps_earlier.Goals as goal
 
-pub loop-earlier-init : goal.loop-earlier-init
-unfolding some_below
-loop-earlier-init c = search rules
-
-pub loop-earlier-preserved : goal.loop-earlier-preserved
-unfolding job_at
-loop-earlier-preserved c =
-    let at = c.loop-earlier in
-    let given = c.args in
-    (search rules, some_turn (each given.jobs given.place) at.invariant.1 c.overlap-found.ensures)
-
 pub returns : goal.returns
-unfolding overlaps_earlier
+unfolding job_at overlaps_earlier
 returns c =
-    let given = c.args in
-    last_turn (some_below (each given.jobs given.place)) c.loop-earlier.invariant.1 c.loop-earlier.invariant.0 c.loop-earlier-test.false
+    any_from_yields_List (λ earlier. overlap earlier (job_at c.args.jobs c.args.place)) _ _ _ c.any.ensures.ran (YieldsList-from_slice _ c.iter.ensures.rest) (λ x b q k. search (rules, tests))
+    ∙ some-listed no_job (λ earlier. overlap earlier (job_at c.args.jobs c.args.place)) c.args.jobs c.args.place (omega arith)

@@ -1,27 +1,14 @@
--- `locks::judging::some_wrong` meets its contract: before each turn the places below are looked at. Assumes nothing.
-use Prim.Native.Nat.{◌-◌}
-use mathlib.Core.Path.{ap₂}
-use mathlib.Core.Bool.{◌||◌}
-use Rattle.places.specs.Places.{some_below}
-use Rattle.places.proofs.Turns.{last_turn, some_turn}
+-- `locks::judging::some_wrong` meets its contract: the chain looks at each place below the count. Assumes nothing.
+use Rattle.std.proofs.Common.{rules, tests, arith, refl, ◌||◌, ◌∙◌}
+use Rattle.std.proofs.lemmas.Iterator.{YieldsList-from_range}
+use Rattle.std.proofs.lemmas.Iterator.Search.{any_from_yields_List}
+use Rattle.places.proofs.Chains.{some-ranged}
 use Rattle.locks.specs.Jobs.{job_at}
 use Rattle.locks.specs.Rules.{is_wrong, overlaps_earlier}
-use borrow.Author.Rules.{rules}
-use Rattle.locks.proofs.judging.some_wrong.Invariants.{each}
 use Rattle.locks.proofs.judging.some_wrong.Goals as goal
 
-pub loop-place-init : goal.loop-place-init
-unfolding some_below
-loop-place-init c = search rules
-
-pub loop-place-preserved : goal.loop-place-preserved
-unfolding job_at
-loop-place-preserved c =
-    let at = c.loop-place in
-    let given = c.args in
-    (search rules, some_turn (each given.period given.jobs) at.invariant.1 (ap₂ ◌||◌ c.is_wrong.ensures c.overlaps_earlier.ensures))
-
 pub returns : goal.returns
+unfolding job_at
 returns c =
-    let given = c.args in
-    last_turn (some_below (each given.period given.jobs)) c.loop-place.invariant.1 c.loop-place.invariant.0 c.loop-place-test.false
+    any_from_yields_List (λ place. is_wrong c.args.period (job_at c.args.jobs place) || overlaps_earlier c.args.jobs place) _ _ _ c.any.ensures.ran (YieldsList-from_range 0 c.args.count c.args.count refl (omega arith)) (λ x b q k. search (rules, tests))
+    ∙ some-ranged (λ place. is_wrong c.args.period (job_at c.args.jobs place) || overlaps_earlier c.args.jobs place) c.args.count

@@ -1,23 +1,16 @@
--- `locks::judging::some_wrong_holder` meets its contract: before each turn the places below are looked at. Assumes nothing.
-use Prim.Native.Nat.{◌-◌}
-use Rattle.places.specs.Places.{some_below}
-use Rattle.places.proofs.Turns.{last_turn, some_turn}
-use Rattle.locks.specs.Ceilings.{resource_at}
-use Rattle.locks.specs.Rules.{some_wrong_holder}
-use borrow.Author.Rules.{rules}
-use Rattle.locks.proofs.judging.some_wrong_holder.Invariants.{each}
+-- `locks::judging::some_wrong_holder` meets its contract: the chain looks at each resource. Assumes nothing.
+use Rattle.std.proofs.Common.{rules, tests, arith, sym, ap, ◌∙◌, take_all}
+use Rattle.std.proofs.lemmas.Iterator.{YieldsList-from_slice}
+use Rattle.std.proofs.lemmas.Iterator.Search.{any_from_yields_List}
+use Rattle.places.proofs.Chains.{some-listed}
+use Rattle.std.specs.List.{list_any}
+use Rattle.locks.specs.Ceilings.{no_resource, resource_at}
+use Rattle.locks.specs.Rules.{wrong_holder, some_wrong_holder}
 use Rattle.locks.proofs.judging.some_wrong_holder.Goals as goal
 
-pub loop-place-init : goal.loop-place-init
-unfolding some_below
-loop-place-init c = search rules
-
-pub loop-place-preserved : goal.loop-place-preserved
-unfolding resource_at
-loop-place-preserved c =
-    let at = c.loop-place in
-    (search rules, some_turn (each c.args.resources) at.invariant.1 c.wrong_holder-found.ensures)
-
 pub returns : goal.returns
-unfolding some_wrong_holder
-returns c = last_turn (some_below (each c.args.resources)) c.loop-place.invariant.1 c.loop-place.invariant.0 c.loop-place-test.false
+unfolding resource_at some_wrong_holder
+returns c =
+    any_from_yields_List wrong_holder _ _ _ c.any.ensures.ran (YieldsList-from_slice _ c.iter.ensures.rest) (λ x b q k. search (rules, tests))
+    ∙ ap (list_any wrong_holder) (sym (take_all 8 c.args.resources (omega arith)))
+    ∙ some-listed no_resource wrong_holder c.args.resources 8 (omega arith)

@@ -1,25 +1,14 @@
--- `locks::running::some_uses` meets its contract: before each turn the places below are looked at. Assumes nothing.
-use Prim.Native.Nat.{◌-◌}
-use Rattle.places.specs.Places.{some_below}
-use Rattle.places.proofs.Turns.{last_turn, some_turn}
-use Rattle.locks.specs.Jobs.{job_at, some_job}
-use borrow.Author.Rules.{rules}
-use Rattle.locks.proofs.running.some_uses.Invariants.{each}
+-- `locks::running::some_uses` meets its contract: the chain looks at each job below the count. Assumes nothing.
+use Rattle.std.proofs.Common.{rules, tests, arith, ◌∙◌}
+use Rattle.std.proofs.lemmas.Iterator.{YieldsList-from_slice}
+use Rattle.std.proofs.lemmas.Iterator.Search.{any_from_yields_List}
+use Rattle.places.proofs.Chains.{some-listed}
+use Rattle.locks.specs.Bits.{has_bit}
+use Rattle.locks.specs.Jobs.{no_job, job_at, some_job}
 use Rattle.locks.proofs.running.some_uses.Goals as goal
 
-pub loop-place-init : goal.loop-place-init
-unfolding some_below
-loop-place-init c = search rules
-
-pub loop-place-preserved : goal.loop-place-preserved
-unfolding job_at
-loop-place-preserved c =
-    let at = c.loop-place in
-    let given = c.args in
-    (search rules, some_turn (each given.jobs given.resource) at.invariant.1 c.has_bit-found.ensures)
-
 pub returns : goal.returns
-unfolding some_job
+unfolding job_at some_job
 returns c =
-    let given = c.args in
-    last_turn (some_below (each given.jobs given.resource)) c.loop-place.invariant.1 c.loop-place.invariant.0 c.loop-place-test.false
+    any_from_yields_List (λ job. has_bit job.uses c.args.resource) _ _ _ c.any.ensures.ran (YieldsList-from_slice _ c.iter.ensures.rest) (λ x b q k. search (rules, tests))
+    ∙ some-listed no_job (λ job. has_bit job.uses c.args.resource) c.args.jobs c.args.count (omega arith)

@@ -1,6 +1,6 @@
 -- `margins::changing::changed` meets its contract: the room is filled place by place. Assumes nothing.
 use Prim.Native.Nat.{ℕ}
-use mathlib.Core.Path.{◌≡◌, refl, sym, ap, ap₂, ◌∙◌}
+use mathlib.Core.Path.{◌≡◌, sym, ap, ap₂, ◌∙◌}
 use mathlib.Core.List.{List}
 use native.Mathlib.Omega.{arith}
 use lib.ListN.{set, replicate}
@@ -14,7 +14,7 @@ use Rattle.margins.proofs.changing.changed.Goals as goal
 
 pub loop-place-init : goal.loop-place-init
 unfolding filled_below
-loop-place-init c = (omega arith, refl)
+loop-place-init c = (omega arith, ap (replicate 8) c.no_record-records.ensures)
 
 pub changed_at-requires : goal.changed_at-requires
 changed_at-requires c = c.requires.room

@@ -1,5 +1,5 @@
 -- `margins::changing::changed` meets its contract: the room is filled place by place. Assumes nothing.
-use Prim.Native.Nat.{ℕ, ◌-◌, ◌≤◌}
+use Prim.Native.Nat.{ℕ, ◌≤◌}
 use mathlib.Core.Path.{◌≡◌}
 use lib.ListN.{replicate}
 use Rattle.places.specs.Places.{filled_below}
@@ -16,6 +16,3 @@ filling change value t place = fitted_at change value place (record_at t.records
 
 abbrev pub invariant-loop-place : goal.invariant-loop-place
 invariant-loop-place l = (l.place ≤ l.table.count) × (l.records ≡ filled_below (filling l.change l.value l.table) l.place (replicate 8 no_record))
-
-abbrev pub decreases-loop-place : goal.decreases-loop-place
-decreases-loop-place l = l.table.count - l.place

@@ -3,6 +3,8 @@ use Prim.Native.Nat.{ℕ, ◌+◌, ◌/◌}
 use mathlib.Core.Path.{◌≡◌, sym, ap, ◌∙◌, subst}
 use mathlib.Core.Bool.{not}
 use native.Mathlib.Omega.{arith}
+use borrow.Author.Tests.{ne_eqb}
+use Rattle.analysis.specs.Told.{some_of}
 use Rattle.analysis.proofs.Laws.ByRule.{rule-good}
 use Rattle.analysis.proofs.Laws.Published.Halving.{Between, half-holds, half-fails}
 use Rattle.sheet.proofs.Cases.{good-table}
@@ -28,12 +30,14 @@ holds_at-requires c =
     }
 
 pub returns-then-not-holds_at : goal.returns-then-not-holds_at
+unfolding some_of
 returns-then-not-holds_at c =
     let rule = c.args.rule in
     let t = c.args.table in
     let change = c.args.change in
-    margin-none rule t (rule-good rule t c.requires.good) change
-    (ap not (sym (c.holds_at.ensures ∙ ap (λ (n : ℕ). holds_with rule t change (value_at change n 1)) c.last_of-last.ensures.0)) ∙ (ap not c.if-not-holds_at.true))
+    ap some_of
+    (margin-none rule t (rule-good rule t c.requires.good) change
+    (ap not (sym (c.holds_at.ensures ∙ ap (λ (n : ℕ). holds_with rule t change (value_at change n 1)) c.last_of-last.ensures.0)) ∙ (ap not c.if-not-holds_at.true)))
 
 pub overflow_add-fails : goal.overflow_add-fails
 overflow_add-fails c = omega (arith, room_small c.args.change c.last_of-last.result c.last_of-last.ensures.1)
@@ -101,15 +105,17 @@ value_at-requires c =
     let last = c.last_of-last in
     record {
       room = room_small c.args.change last.result last.ensures.1;
-      within = omega (arith, c.loop-holds.invariant.apart, last.ensures.0);
+      within = (c.loop-holds.invariant.apart.0, omega (arith, c.loop-holds.invariant.apart, last.ensures.0));
     }
 
 pub returns : goal.returns
+unfolding some_of
 returns c =
     let at = c.loop-holds in
     let last = c.last_of-last in
     let rule = c.args.rule in
     let t = c.args.table in
     let change = c.args.change in
-    c.value_at.ensures ∙ ap (λ (n : ℕ). value_at change n at.holds) last.ensures.0
-    ∙ margin-found rule t (rule-good rule t c.requires.good) change at.holds at.fails at.invariant (omega arith)
+    let found = c.value_at.ensures.same ∙ ap (λ (n : ℕ). value_at change n at.holds) last.ensures.0
+    ∙ margin-found rule t (rule-good rule t c.requires.good) change at.holds at.fails at.invariant (omega arith) in
+    rw (← found) (simp (ne_eqb c.value_at.result 0 (λ zero. omega (arith, zero, c.value_at.ensures.some))))

@@ -1,5 +1,5 @@
 -- `reasons::counting::tasks_of` meets its contract: the room is filled place by place. Assumes nothing.
-use Prim.Native.Nat.{◌-◌, ◌≤◌}
+use Prim.Native.Nat.{◌≤◌}
 use mathlib.Core.Path.{◌≡◌}
 use lib.ListN.{replicate}
 use Rattle.places.specs.Places.{filled_below}
@@ -9,6 +9,3 @@ use Rattle.reasons.proofs.counting.tasks_of.Given as goal
 
 abbrev pub invariant-loop-other : goal.invariant-loop-other
 invariant-loop-other l = (l.other ≤ l.table.count) × (l.tasks ≡ filled_below (task_term l.equation (own_tasks l.table) l.place l.length) l.other (replicate 8 no_term))
-
-abbrev pub decreases-loop-other : goal.decreases-loop-other
-decreases-loop-other l = l.table.count - l.other

@@ -1,23 +1,24 @@
 -- `reasons::deciding::length_of` meets its contract. Assumes nothing.
 use native.Mathlib.Omega.{arith}
-use borrow.Author.Tests.{eq-eqb, ne_eqb}
+use mathlib.Core.Path.{refl}
+use borrow.Author.Tests.{ne_eqb}
 use Rattle.reasons.specs.Deciding.{length_of}
 use Rattle.reasons.proofs.deciding.length_of.Goals as goal
 
-pub returns-then-time-eq0 : goal.returns-then-time-eq0
+pub returns-in-Some : goal.returns-in-Some
 unfolding length_of
-returns-then-time-eq0 c = record {
-  same = simp (eq-eqb _ 0 c.if-time-eq0.true);
+returns-in-Some c =
+    let some = rw c.in-Some.is at c.requires in
+    record {
+      same = rw c.in-Some.is (simp (ne_eqb c.in-Some.time 0 (λ zero. omega (arith, some, zero))));
+      some = some;
+      small = omega arith;
+    }
+
+pub returns-in-None : goal.returns-in-None
+unfolding length_of
+returns-in-None c = record {
+  same = rw c.in-None.is refl;
   some = omega arith;
   small = omega arith;
 }
-
-pub returns : goal.returns
-unfolding length_of
-returns c =
-    let some = c.if-time-eq0.false in
-    record {
-      same = simp (ne_eqb _ 0 some);
-      some = omega arith;
-      small = omega arith;
-    }

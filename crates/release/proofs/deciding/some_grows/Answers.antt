@@ -1,42 +1,13 @@
--- `release::deciding::some_grows` meets its contract: before each turn it is known whether the response of a protected task below grows. Assumes nothing.
-use Prim.Native.Nat.{◌-◌}
-use mathlib.Core.Path.{◌≡◌, sym, ap, ap₂, ◌∙◌}
-use mathlib.Core.Bool.{◌&&◌, ◌||◌}
-use native.Mathlib.Omega.{arith}
-use Rattle.places.specs.Places.{some_below}
-use Rattle.places.proofs.Turns.{some_more}
-use Rattle.sheet.proofs.Cases.{good-table}
-use Rattle.release.specs.Rules.{is_protected, grows_at, some_grows}
-use borrow.Author.Rules.{rules}
-use Rattle.release.proofs.deciding.some_grows.Invariants.{worse}
+-- `release::deciding::some_grows` meets its contract: the chain looks at each place below the count. Assumes nothing.
+use Rattle.std.proofs.Common.{rules, tests, arith, refl, get_or, ◌&&◌, ◌∙◌}
+use Rattle.std.proofs.lemmas.Iterator.{YieldsList-from_range}
+use Rattle.std.proofs.lemmas.Iterator.Search.{any_from_yields_List}
+use Rattle.places.proofs.Chains.{some-ranged}
+use Rattle.analysis.specs.Common.Entries.{no_entry}
+use Rattle.release.specs.Rules.{is_protected, grows}
 use Rattle.release.proofs.deciding.some_grows.Goals as goal
 
-pub loop-place-init : goal.loop-place-init
-unfolding some_below
-loop-place-init c = search rules
-
-pub is_protected-requires : goal.is_protected-requires
-is_protected-requires c =
-    omega (arith, (good-table c.args.old c.requires.good_old).count.1)
-
-pub grows_at-requires : goal.grows_at-requires
-grows_at-requires c =
-    record {
-      good_old = c.requires.good_old;
-      good_new = c.requires.good_new;
-      in_old = omega arith;
-      in_new = omega (arith, c.requires.same_count);
-    }
-
-pub loop-place-preserved : goal.loop-place-preserved
-loop-place-preserved c =
-    let at = c.loop-place in
-    let given = c.args in
-    (search rules, ap₂ ◌||◌ at.invariant.1 (ap₂ ◌&&◌ c.is_protected.ensures c.grows_at.ensures) ∙ sym (some_more (worse given.old given.new given.protected) at.place))
-
 pub returns : goal.returns
-unfolding some_grows
 returns c =
-    let given = c.args in
-    let all : c.loop-place.place ≡ given.old.count = omega arith in
-    c.loop-place.invariant.1 ∙ ap (some_below (worse given.old given.new given.protected)) all
+    any_from_yields_List (λ place. is_protected c.args.protected place && grows (get_or c.args.old place no_entry).outcome (get_or c.args.new place no_entry).outcome) _ _ _ c.any.ensures.ran (YieldsList-from_range 0 c.args.count c.args.count refl (omega arith)) (λ x b q k. search (rules, tests))
+    ∙ some-ranged (λ place. is_protected c.args.protected place && grows (get_or c.args.old place no_entry).outcome (get_or c.args.new place no_entry).outcome) c.args.count

@@ -1,5 +1,5 @@
 -- `replay::Following::take` meets its contract: before each turn the bytes to come, from what is kept so far, come to what all of them do. Assumes nothing.
-use Rattle.std.proofs.Common.{◌+◌, ◌-◌, ◌≤◌, length, sym, refl, ap, ◌∙◌, subst, arith, rules}
+use Rattle.std.proofs.Common.{◌+◌, ◌≤◌, length, sym, refl, ap, ◌∙◌, subst, arith, rules}
 use Rattle.replay.specs.declared.Following.{Following}
 use Rattle.replay.specs.Ticks.Machines.{IsTied}
 use Rattle.replay.specs.Logs.Pieces.{AtOnce, followed, taken_answer}

@@ -10,7 +10,7 @@ use Rattle.report.specs.Decimal.{decimal, signed}
 use Rattle.report.specs.Putting.{put}
 use Rattle.report.proofs.Decimal.{length-decimal}
 use Rattle.report.proofs.Putting.{put-more, len-put}
-use Rattle.report.proofs.Signs.{signed-negative, signed-not, not_negative, length-signed, back, abs-small}
+use Rattle.report.proofs.Signs.{signed-negative, signed-not, length-signed, back, abs-small}
 use Rattle.report.proofs.composing.with_signed.Goals as goal
 
 pub with_number-requires : goal.with_number-requires
@@ -29,13 +29,6 @@ returns-then-number-lt0 c =
       answer = done;
       bounded = omega (arith, len-put _ (signed z) done, length-signed z fits);
     }
-
-pub overflow_cast-number : goal.overflow_cast-number
-overflow_cast-number c =
-    let not-less : lt_z c.args.number (pos 0) ≡ false = rw (back c.args.number c.ranges.number.sfits) at c.if-number-lt0.false in
-    let z = c.args.number in
-    let fits = c.ranges.number.sfits in
-    rw (back z fits) (not_negative z not-less, record { fits = omega (arith, abs-small z fits) })
 
 pub with_number-requires-2 : goal.with_number-requires-2
 with_number-requires-2 c =

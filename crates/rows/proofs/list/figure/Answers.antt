@@ -1,5 +1,5 @@
 -- `rows::list::figure` meets its contract: before each turn the place is that of the figure reached. Assumes nothing.
-use Rattle.std.proofs.Common.{◌≡◌, ℕ, ◌-◌, ◌<◌, ◌≤◌, sym, refl, ap, ◌∙◌, add-one, arith, rules, le-ltb, lt-ltb}
+use Rattle.std.proofs.Common.{◌≡◌, ℕ, ◌<◌, ◌≤◌, sym, refl, ap, ◌∙◌, add-one, arith, rules, le-ltb, lt-ltb}
 use Rattle.rows.specs.declared.list.Digits.{Digits}
 use Rattle.rows.specs.Lists.{after, number_at, field_at, figure_of}
 use Rattle.rows.proofs.list.figure.Goals as goal

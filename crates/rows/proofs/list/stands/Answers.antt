@@ -1,21 +1,26 @@
--- `rows::list::stands` meets its contract: before each turn the rest of the text is still to be held against the list. Assumes nothing.
-use Rattle.std.proofs.Common.{◌-◌, sym, refl, ◌∙◌}
-use Rattle.rows.proofs.Sayings.{said-end, said-short, said-other, said-on}
+-- `rows::list::stands` meets its contract: the text begins what is left of the list. Assumes nothing.
+use Rattle.std.proofs.Common.{◌≡◌, ℕ, ◌-◌, List, take, drop, eqb, min, length, sym, ap, ◌∙◌, arith, take_all}
+use Rattle.std.specs.List.{starts_with}
+use Rattle.std.proofs.lemmas.List.{drop_min, length-drop}
+use Rattle.rows.specs.Answers.{begins, text_end}
+use Rattle.rows.proofs.Sayings.{begins-told}
 use Rattle.rows.proofs.list.stands.Goals as goal
 
-pub loop-done-init : goal.loop-done-init
-loop-done-init c = refl
+-- what is left of the list from the lesser of the place and the length on, held against the text
+held : (list text : List ℕ) (place least : ℕ) → least ≡ min place (length list) → begins (drop place list) text ≡ starts_with eqb (take (length list - least) (drop least list)) text
+held list text place least e =
+    let whole : take (length list - least) (drop least list) ≡ drop least list = take_all _ _ (omega (arith, length-drop least list)) in
+    let rest : drop place list ≡ take (length list - least) (drop least list) = sym (whole ∙ ap (λ (n : ℕ). drop n list) e ∙ drop_min place list) in
+    sym (begins-told (drop place list) text) ∙ ap (λ (part : List ℕ). starts_with eqb part text) rest
 
-pub returns-then-list-place : goal.returns-then-list-place
-returns-then-list-place c = sym (said-short _ _ _ _ c.loop-done-test.true c.if-list-place.true) ∙ c.loop-done.invariant
+pub returns-then-starts_with : goal.returns-then-starts_with
+unfolding text_end
+returns-then-starts_with c =
+    let told = held c.args.list.now c.args.text.now c.in-Some.place c.min.result c.min.ensures ∙ sym c.starts_with.ensures.value in
+    sym (simp (c.in-Some.is, told, c.if-starts_with.true))
 
-pub returns-then-list-place-2 : goal.returns-then-list-place-2
-returns-then-list-place-2 c =
-    sym (said-other _ _ _ _ c.loop-done-test.true c.if-list-place.false c.if-list-place-2.true) ∙ c.loop-done.invariant
-
-pub loop-done-preserved : goal.loop-done-preserved
-loop-done-preserved c =
-    said-on _ _ _ _ c.loop-done-test.true c.if-list-place.false c.if-list-place-2.false ∙ c.loop-done.invariant
-
-pub returns : goal.returns
-returns c = sym (said-end _ _ _ _ c.loop-done-test.false) ∙ c.loop-done.invariant
+pub returns-else-starts_with : goal.returns-else-starts_with
+unfolding text_end
+returns-else-starts_with c =
+    let told = held c.args.list.now c.args.text.now c.in-Some.place c.min.result c.min.ensures ∙ sym c.starts_with.ensures.value in
+    sym (simp (c.in-Some.is, told, c.if-starts_with.false))

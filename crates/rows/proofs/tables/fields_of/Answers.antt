@@ -1,5 +1,5 @@
 -- `rows::tables::fields_of` meets its contract: before each turn the fields below the number are filled. Assumes nothing.
-use Rattle.std.proofs.Common.{◌≡◌, ℕ, ◌-◌, ◌%◌, List, set, replicate, sym, refl, ap, ◌∙◌, ap₂, arith, rules}
+use Rattle.std.proofs.Common.{◌≡◌, ℕ, ◌%◌, List, set, replicate, sym, refl, ap, ◌∙◌, ap₂, arith, rules}
 use Rattle.places.specs.Places.{filled_below}
 use Rattle.places.proofs.Turns.{fill_more}
 use Rattle.rows.specs.Lists.{figure_of}

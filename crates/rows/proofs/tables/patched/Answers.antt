@@ -1,5 +1,5 @@
 -- `rows::tables::patched` meets its contract: before each turn the pairs so far are replaced. Assumes nothing.
-use Rattle.std.proofs.Common.{◌≡◌, ℕ, ◌+◌, ◌-◌, ◌*◌, ◌%◌, List, set, refl, ap, ◌∙◌, ap₂, add-one, arith, rules}
+use Rattle.std.proofs.Common.{◌≡◌, ℕ, ◌+◌, ◌*◌, ◌%◌, List, set, refl, ap, ◌∙◌, ap₂, add-one, arith, rules}
 use Rattle.rows.specs.Lists.{figure_of}
 use Rattle.rows.specs.Tables.{slot_of, replaced_to, patched_by}
 use Rattle.rows.proofs.tables.patched.Goals as goal

@@ -1,5 +1,5 @@
 -- `sheet::layout::records_of` meets its contract: before each turn the records below the place are filled. Assumes nothing.
-use Prim.Native.Nat.{◌-◌, ◌≤◌}
+use Prim.Native.Nat.{◌≤◌}
 use mathlib.Core.Path.{◌≡◌}
 use lib.ListN.{replicate}
 use Rattle.places.specs.Places.{filled_below}
@@ -8,6 +8,3 @@ use Rattle.sheet.proofs.layout.records_of.Given as goal
 
 abbrev pub invariant-loop-place : goal.invariant-loop-place
 invariant-loop-place l = (l.place ≤ l.count) × (l.records ≡ filled_below (sheet_record l.sheet) l.place (replicate 8 no_record))
-
-abbrev pub decreases-loop-place : goal.decreases-loop-place
-decreases-loop-place l = l.count - l.place

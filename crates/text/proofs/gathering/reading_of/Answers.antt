@@ -4,4 +4,4 @@ use Rattle.text.proofs.gathering.reading_of.Goals as goal
 
 pub returns : goal.returns
 unfolding reading_of held_line
-returns c = simp (← c.part.ensures) c.read_line.ensures
+returns c = simp (← c.part-held.ensures) c.read_line.ensures

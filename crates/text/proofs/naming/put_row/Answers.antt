@@ -11,14 +11,11 @@ use Rattle.text.proofs.Inked.{long-quoted}
 use Rattle.text.proofs.Laid.{put-more, put_as}
 use Rattle.text.proofs.naming.put_row.Goals as goal
 
-pub put-requires : goal.put-requires
-put-requires c = omega (arith, ap (λ (q : Quote). length q.bytes) c.quoted-quote.ensures, long-quoted c.args.name)
-
 pub returns : goal.returns
 unfolding named_row column_at
 returns c =
     let given = c.args in
-    let cell = c.quoted-quote.ensures in
+    let cell = c.quoted.ensures in
     let long = ap (λ (q : Quote). length q.bytes) cell ∙ long-quoted given.name in
     let row = c.put_row.ensures in
     let numbers = put_as (ap (λ (l : List ℕ). row_text l 6) c.task_numbers.ensures) refl row.1 in

@@ -1,27 +1,16 @@
--- `text::naming::quoted` meets its contract: before each turn the name's bytes below the place are put. Assumes nothing.
-use Prim.Native.Nat.{◌-◌}
-use mathlib.Core.Path.{refl}
-use native.Mathlib.Omega.{arith}
-use Rattle.places.proofs.Turns.{last_turn}
-use Rattle.text.specs.Named.{with_ink, letters_below, quoted_name}
-use Rattle.text.proofs.Inked.{letters-turn}
-use borrow.Author.Rules.{rules}
+-- `text::naming::quoted` meets its contract: a fold over the name's first bytes. Assumes nothing.
+use Rattle.std.proofs.Common.{rules, arith, ◌≡◌, ◌∙◌, min, take}
+use Rattle.std.proofs.lemmas.Iterator.{YieldsList-from_slice}
+use Rattle.std.proofs.lemmas.Iterator.Consumers.{fold_from_yields_List}
+use Rattle.text.specs.Named.{with_letter, letters_below, quoted_name}
+use Rattle.text.proofs.Inked.{letters_fold}
 use Rattle.text.proofs.naming.quoted.Goals as goal
-
-pub loop-place-init : goal.loop-place-init
-unfolding letters_below
-loop-place-init c = (omega arith, refl)
-
-pub loop-place-preserved : goal.loop-place-preserved
-loop-place-preserved c =
-    let at = c.loop-place in
-    (search rules, letters-turn c.with_ink-quote.result c.args.name.bytes at.place at.invariant.1 c.with_letter-quote.ensures)
 
 pub returns : goal.returns
 unfolding quoted_name
 returns c =
-    let at = c.loop-place in
-    let bytes = c.args.name.bytes in
-    let count = c.least-count in
-    let last = last_turn (letters_below c.with_ink-quote.result bytes) at.invariant.1 at.invariant.0 (omega arith) in
-    simp (← count.ensures.value, ← c.with_ink-quote.ensures, ← last) c.with_ink.ensures
+    let name = c.args.name in
+    let count : c.min-count.result ≡ min name.length 32 = grind arith in
+    let letters : c.fold-letters.result ≡ letters_below c.with_ink-open.result name.bytes c.min-count.result =
+    fold_from_yields_List _ with_letter _ _ c.fold-letters.ensures.ran (YieldsList-from_slice (take c.min-count.result name.bytes) cc) (λ a x b q k. search rules) ∙ letters_fold c.with_ink-open.result name.bytes c.min-count.result (omega arith) in
+    simp (← count, ← c.with_ink-open.ensures, ← letters) c.with_ink.ensures

@@ -14,9 +14,6 @@ overflow_sub-place c =
     let room : 1 ≤ c.loop-rest.place = cell_room c.args.number c.loop-rest.bytes c.loop-rest.place c.loop-rest.rest c.loop-rest.invariant (search rules) (omega (arith, c.loop-rest-test.true)) in
     room
 
-pub bounds-bytes-place : goal.bounds-bytes-place
-bounds-bytes-place c = omega (arith, c.loop-rest.invariant.wide)
-
 pub loop-rest-smaller : goal.loop-rest-smaller
 loop-rest-smaller c =
     let room : 1 ≤ c.loop-rest.place = cell_room c.args.number c.loop-rest.bytes c.loop-rest.place c.loop-rest.rest c.loop-rest.invariant (search rules) (omega (arith, c.loop-rest-test.true)) in

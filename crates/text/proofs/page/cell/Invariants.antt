@@ -1,5 +1,4 @@
 -- `text::page::cell` meets its contract: before each turn the digits after those of the rest stand at the right end. Assumes nothing.
-use Prim.Native.Nat.{◌-◌}
 use Rattle.text.proofs.Aligned.{Cell}
 use Rattle.text.proofs.page.cell.Given as goal
 

@@ -5,11 +5,8 @@ use native.Mathlib.Omega.{arith}
 use Rattle.text.proofs.Aligned.{column-wide, cell_cut, length-padded}
 use Rattle.text.proofs.page.put_number.Goals as goal
 
-pub overflow_sub-start : goal.overflow_sub-start
-overflow_sub-start c = (column-wide c.args.column c.requires.0).1
-
 pub returns : goal.returns
 returns c =
     let wide = column-wide c.args.column c.requires.0 in
-    let cell = c.cell-bytes.ensures in
+    let cell = c.cell.ensures in
     (refl, record { long = length-padded _ _ (omega (arith, cell.1, wide.0)); content = c.put.ensures.content ∙ ap (sets c.args.out.now c.args.at) (cell_cut _ _ _ cell.0 cell.1 wide.0 wide.1) })

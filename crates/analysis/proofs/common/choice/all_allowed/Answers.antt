@@ -1,5 +1,5 @@
 -- `analysis::common::choice::all_allowed` meets its contract: those passed are allowed. Assumes nothing.
-use Prim.Native.Nat.{ℕ, ◌+◌, ◌-◌, ◌<◌}
+use Prim.Native.Nat.{ℕ, ◌+◌, ◌<◌}
 use mathlib.Core.Path.{◌≡◌, sym, ap, ap₂, ◌∙◌}
 use mathlib.Core.Bool.{Bool, ◌&&◌}
 use native.Mathlib.Omega.{arith}
@@ -25,10 +25,10 @@ loop-place-preserved c =
     ∙ ap (λ (b : Bool). b && all_allowed (drop next priorities) (drop next faults))
     (ap (λ (p : ℕ). is_allowed p (get_or faults at.place 0)) (sym c.priority_at.ensures) ∙ sym c.is_allowed.ensures)
     ) in
-    (search rules, from_place ∙ simp c.if-is_allowed.true)
+    (search rules, from_place ∙ simp c.if-not-is_allowed.false)
 
-pub returns-else-is_allowed : goal.returns-else-is_allowed
-returns-else-is_allowed c =
+pub returns-then-not-is_allowed : goal.returns-then-not-is_allowed
+returns-then-not-is_allowed c =
     let priorities : List ℕ = priorities_of c.args.table in
     let faults : List ℕ = c.args.choice in
     let next : ℕ = c.loop-place.place + 1 in
@@ -41,7 +41,7 @@ returns-else-is_allowed c =
     ∙ ap (λ (b : Bool). b && all_allowed (drop next priorities) (drop next faults))
     (ap (λ (p : ℕ). is_allowed p (get_or faults at.place 0)) (sym c.priority_at.ensures) ∙ sym c.is_allowed.ensures)
     ) in
-    sym (from_place ∙ simp c.if-is_allowed.false)
+    sym (from_place ∙ simp c.if-not-is_allowed.true)
 
 pub returns : goal.returns
 unfolding all_allowed

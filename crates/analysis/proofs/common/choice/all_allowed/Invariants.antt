@@ -1,5 +1,5 @@
 -- `analysis::common::choice::all_allowed` meets its contract: those passed are allowed. Assumes nothing.
-use Prim.Native.Nat.{◌-◌, ◌≤◌}
+use Prim.Native.Nat.{◌≤◌}
 use mathlib.Core.Path.{◌≡◌}
 use lib.ListN.{drop}
 use Rattle.analysis.specs.Common.Columns.{priorities_of}
@@ -8,6 +8,3 @@ use Rattle.analysis.proofs.common.choice.all_allowed.Given as goal
 
 abbrev pub invariant-loop-place : goal.invariant-loop-place
 invariant-loop-place l = (l.place ≤ 8) × (all_allowed (priorities_of l.table) l.choice ≡ all_allowed (drop l.place (priorities_of l.table)) (drop l.place l.choice))
-
-abbrev pub decreases-loop-place : goal.decreases-loop-place
-decreases-loop-place l = 8 - l.place

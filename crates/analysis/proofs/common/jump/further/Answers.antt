@@ -11,8 +11,8 @@ returns-then-rest-paid c = simp (le-ltb _ _ c.if-rest-paid.true)
 
 pub returns-then-rate-ge-UNIT : goal.returns-then-rate-ge-UNIT
 unfolding further_of
-returns-then-rate-ge-UNIT c = c.longer.ensures ∙ sym (simp (lt-ltb _ _ c.if-rest-paid.false, le-leb _ _ c.if-rate-ge-UNIT.true))
+returns-then-rate-ge-UNIT c = c.max.ensures ∙ sym (simp (lt-ltb _ _ c.if-rest-paid.false, le-leb _ _ c.if-rate-ge-UNIT.true))
 
 pub returns : goal.returns
 unfolding further_of up
-returns c = c.longer-2.ensures ∙ sym (simp (lt-ltb _ _ c.if-rest-paid.false, lt-leb _ _ c.if-rate-ge-UNIT.false))
+returns c = c.max-2.ensures ∙ sym (simp (lt-ltb _ _ c.if-rest-paid.false, lt-leb _ _ c.if-rate-ge-UNIT.false))

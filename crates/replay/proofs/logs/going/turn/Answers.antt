@@ -1,6 +1,6 @@
 -- `replay::logs::going::turn` meets its contract. Assumes nothing.
 use Rattle.std.proofs.Common.{sym, ap, ◌∙◌}
-use Rattle.replay.specs.Ticks.Columns.{cells_in}
+use Rattle.replay.specs.Ticks.Columns.{cells_shown}
 use Rattle.replay.specs.Logs.Pieces.{breaking}
 use Rattle.replay.specs.Logs.Held.{held_in}
 use Rattle.replay.proofs.OfLogs.Stepped.{tick-broken, tick-run}
@@ -14,19 +14,15 @@ returns-then-refusal-ne0 c =
     let asked = c.requires in
     let f = given.following in
     let headway = given.headway in
-    let cells = cells_in given.left.now given.rest.now given.wait.now given.backups.now in
-    let judged = c.judge-refusal.ensures ∙ refusal-held f.machine cells headway.gap headway.tally given.tick.releases given.tick.faults _ c.some_early_in-is_early.ensures in
+    let cells = cells_shown given.columns.now in
+    let judged = c.judge-refusal.ensures ∙ refusal-held f.machine cells headway.gap headway.tally given.tick.releases given.tick.faults _ c.some_early-is_early.ensures in
     let held = held_in f cells headway in record {
       turn = ap (breaking held) judged ∙ sym (tick-broken held given.tick.releases given.tick.faults given.tick.ran (held-free f cells headway asked.good asked.free) (λ e. c.if-refusal-ne0.true (judged ∙ e)));
       kept = record { small = asked.kept.small; kept = asked.kept.kept };
-      room = asked.room;
     }
 
 pub run-requires : goal.run-requires
-run-requires c = record {
-  kept = c.requires.kept;
-  room = c.requires.room;
-}
+run-requires c = c.requires.kept
 
 pub returns : goal.returns
 unfolding held_in
@@ -35,10 +31,9 @@ returns c =
     let asked = c.requires in
     let f = given.following in
     let headway = given.headway in
-    let cells = cells_in given.left.now given.rest.now given.wait.now given.backups.now in
-    let judged = c.judge-refusal.ensures ∙ refusal-held f.machine cells headway.gap headway.tally given.tick.releases given.tick.faults _ c.some_early_in-is_early.ensures in
+    let cells = cells_shown given.columns.now in
+    let judged = c.judge-refusal.ensures ∙ refusal-held f.machine cells headway.gap headway.tally given.tick.releases given.tick.faults _ c.some_early-is_early.ensures in
     record {
       turn = c.run.ensures.run ∙ sym (tick-run (held_in f cells headway) given.tick.releases given.tick.faults given.tick.ran (held-free f cells headway asked.good asked.free) (sym judged ∙ c.if-refusal-ne0.false));
       kept = c.run.ensures.kept;
-      room = c.run.ensures.room;
     }

@@ -1,5 +1,5 @@
 -- `replay::ticks::ready::ready_priorities` meets its contract: before each turn the priorities of the slots below are in the set. Assumes nothing.
-use Rattle.std.proofs.Common.{◌≡◌, ℕ, ◌+◌, ◌-◌, Bool, ◌&&◌, eqb, List, sym, ap, ◌∙◌, ap₂, arith, rules}
+use Rattle.std.proofs.Common.{◌≡◌, ℕ, ◌+◌, Bool, ◌&&◌, eqb, List, sym, ap, ◌∙◌, ap₂, arith, rules}
 use mathlib.Core.Path.{fun_ext}
 use lib.Bits.{bit_or}
 use Rattle.places.specs.Places.{some_below, one_if}

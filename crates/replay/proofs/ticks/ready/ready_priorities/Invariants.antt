@@ -1,5 +1,5 @@
 -- `replay::ticks::ready::ready_priorities` meets its contract: before each turn the priorities of the slots below are in the set. Assumes nothing.
-use Rattle.std.proofs.Common.{◌≡◌, ℕ, ◌+◌, ◌-◌, ◌≤◌, Bool, List}
+use Rattle.std.proofs.Common.{◌≡◌, ℕ, ◌+◌, ◌≤◌, Bool, List}
 use Rattle.places.specs.Places.{some_below}
 use Rattle.sheet.specs.declared.Record.{Record}
 use Rattle.sheet.specs.Layout.{record_at}
@@ -15,6 +15,3 @@ present tasks cells slot below = some_below (is_at (record_at tasks) (cell_at ce
 
 abbrev pub invariant-loop-slot : goal.invariant-loop-slot
 invariant-loop-slot l = (l.slot ≤ 8) × (l.priorities ≡ bits_of (present l.tasks l.cells l.slot) 8)
-
-abbrev pub decreases-loop-slot : goal.decreases-loop-slot
-decreases-loop-slot l = 8 - l.slot

@@ -1,5 +1,5 @@
 -- `replay::ticks::runner::top_backup` meets its contract: before each turn the highest of the slots below is known. Assumes nothing.
-use Rattle.std.proofs.Common.{◌≡◌, ℕ, ◌+◌, ◌-◌, Bool, cond, sym, ap, ◌∙◌, ap₂, arith, rules}
+use Rattle.std.proofs.Common.{◌≡◌, ℕ, ◌+◌, Bool, cond, sym, ap, ◌∙◌, ap₂, arith, rules}
 use Rattle.places.specs.Places.{highest_below}
 use Rattle.places.proofs.Turns.{highest-more}
 use Rattle.sheet.specs.Layout.{record_at}

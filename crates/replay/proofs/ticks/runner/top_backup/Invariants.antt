@@ -1,5 +1,5 @@
 -- `replay::ticks::runner::top_backup` meets its contract: before each turn the highest of the slots below is known. Assumes nothing.
-use Rattle.std.proofs.Common.{◌≡◌, ℕ, ◌-◌, ◌≤◌, Bool, ◌&&◌, List}
+use Rattle.std.proofs.Common.{◌≡◌, ℕ, ◌≤◌, Bool, ◌&&◌, List}
 use Rattle.places.specs.Places.{highest_below}
 use Rattle.sheet.specs.declared.Record.{Record}
 use Rattle.sheet.specs.Layout.{record_at}
@@ -18,6 +18,3 @@ up_to tasks cells priority = highest_below (each tasks cells priority)
 
 abbrev pub invariant-loop-slot : goal.invariant-loop-slot
 invariant-loop-slot l = (l.slot ≤ 8) × (l.highest ≡ up_to l.tasks l.cells l.priority l.slot)
-
-abbrev pub decreases-loop-slot : goal.decreases-loop-slot
-decreases-loop-slot l = 8 - l.slot

@@ -1,8 +1,0 @@
--- `lines::finding::is_digit` meets its contract. Assumes nothing.
-use Rattle.cells.specs.Kinds.{is_digit}
-use borrow.Author.Rules.{rules}
-use Rattle.lines.proofs.finding.is_digit.Goals as goal
-
-pub returns : goal.returns
-unfolding is_digit
-returns c = search rules

@@ -1,9 +1,0 @@
--- `replay::ticks::columns::shown` meets its contract. Assumes nothing.
-use Rattle.std.proofs.Common.{◌+◌, Bool, cond, sym, ap, ◌∙◌, add-zero}
-use Rattle.replay.proofs.ticks.columns.shown.Goals as goal
-
-pub returns-then-is_backup : goal.returns-then-is_backup
-returns-then-is_backup c left rest wait = ap (λ (b : Bool). c.args.priority + cond b 128 0) (sym c.if-is_backup.true ∙ c.is_backup.ensures left rest wait)
-
-pub returns : goal.returns
-returns c left rest wait = sym (add-zero _) ∙ ap (λ (b : Bool). c.args.priority + cond b 128 0) (sym c.if-is_backup.false ∙ c.is_backup.ensures left rest wait)

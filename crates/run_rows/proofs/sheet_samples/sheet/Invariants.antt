@@ -1,9 +1,0 @@
--- `run_rows::sheet_samples::sheet` is safe and ends; nothing has to hold from turn to turn. Assumes nothing.
-use Rattle.std.proofs.Common.{◌-◌}
-use Rattle.run_rows.proofs.sheet_samples.sheet.Given as goal
-
-abbrev pub invariant-loop-place : goal.invariant-loop-place
-invariant-loop-place l = Unit {0}
-
-abbrev pub decreases-loop-place : goal.decreases-loop-place
-decreases-loop-place l = 76 - l.place
