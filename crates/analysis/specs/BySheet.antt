@@ -1,6 +1,7 @@
 -- What the calls answer that are asked of a sheet's bytes: what is answered for the table that they hold, after the sheet's own refusal.
-use Rattle.std.specs.Prelude.{ℕ, cond, List, eqb}
+use Rattle.std.specs.Prelude.{ℕ, cond, List, eqb, ltb}
 use Rattle.places.specs.Refusals.{or_else}
+use Rattle.sheet.specs.Told.{Ranked}
 use Rattle.sheet.specs.Layout.{is_whole, table_of}
 use Rattle.sheet.specs.Rules.{sheet_refusal}
 use Rattle.analysis.specs.Told.{Assessment, Timed}
@@ -29,6 +30,13 @@ assessed_in rule sheet = cond (eqb (sheet_refusal sheet) 0) (own_assessment_by r
 unfoldable pub shared_by : Rule → ℕ → ℕ → ℕ
 shared_by Published round share = 0
 shared_by Assured round share = cond (is_whole round share) 0 19
+
+-- the refusal of `assess_in` out of what was read of a sheet, and that of `time_in`
+unfoldable pub read_refusal : Rule → Ranked → ℕ
+read_refusal rule read = or_else read.refusal (shared_by rule read.round read.share)
+
+unfoldable pub read_place_refusal : Rule → Ranked → ℕ → ℕ
+read_place_refusal rule read place = or_else (read_refusal rule read) (cond (ltb place read.count) 0 12)
 
 -- the refusal of a sheet under a rule: its own, then its table's
 unfoldable pub sheet_rule_refusal : Rule → List ℕ → ℕ

@@ -36,7 +36,7 @@ use Rattle.analysis.proofs.Laws.Common.Columned.{chosen-there, ranks-there}
 use Rattle.analysis.proofs.Laws.Bounds.ByRank.{in-ranks-order}
 
 -- a good table is refused under a rule for its round and share only
-rule-shared : (rule : Rule) (t : Table) → table_refusal t ≡ 0 → rule_refusal rule t ≡ shared_by rule t.round t.share
+pub rule-shared : (rule : Rule) (t : Table) → table_refusal t ≡ 0 → rule_refusal rule t ≡ shared_by rule t.round t.share
 unfolding rule_refusal shared_by shared_refusal
 rule-shared Published t good = good
 rule-shared Assured t good = next-of _ good

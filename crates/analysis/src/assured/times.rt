@@ -2,7 +2,8 @@
 ghost use Rattle.std.specs.Prelude.{◌≡◌, ℕ};
 ghost use Rattle.analysis.specs.Common.Search.{least_within};
 ghost use Rattle.analysis.specs.Assured.Equation.{asked_assured};
-ghost use Rattle.analysis.specs.Common.Lent.{tasks_in, asked_in};
+ghost use Rattle.analysis.specs.Assured.Demand.{assured_demand};
+ghost use Rattle.analysis.specs.Common.Lent.{tasks_in, demand_in, asked_in};
 
 use crate::common::load;
 use crate::common::search::Search;
@@ -11,7 +12,8 @@ use crate::common::tasks::Bearer;
 impl<'a> Bearer<'a> {
     // The search for its assured time.
     pub fn assurance(&self, backup: u16) -> Search<'a>
-        ensures { (limit : ℕ) → least_within (asked_in result) 1 limit ≡ least_within (asked_assured (tasks_in self.now.tasks) self.now.rank self.now.fault backup) 1 limit }
+        ensures same { demand_in result ≡ assured_demand (tasks_in self.now.tasks) self.now.rank self.now.fault backup }
+        ensures found { (limit : ℕ) → least_within (asked_in result) 1 limit ≡ least_within (asked_assured (tasks_in self.now.tasks) self.now.rank self.now.fault backup) 1 limit }
     {
         let tasks = self.tasks;
         let rank = self.rank;

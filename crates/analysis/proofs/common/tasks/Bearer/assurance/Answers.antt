@@ -18,5 +18,10 @@ pub returns : goal.returns
 returns c =
     let self = c.args.self.now in
     let s = tasks_in self.tasks in
-    λ limit. ap (λ (base : ℕ). least_within (demand_of s (record { base = base; rank = self.rank; until = self.tasks.frame.count - self.fault; backup = c.args.backup; paid = 0 })) 1 limit) c.wide-base.ensures.same
-    ∙ assured-found s self.tasks.order self.rank self.below self.fault self.fits c.args.backup limit
+    let base = c.wide-base.ensures.same in
+    record {
+      same = λ j. record { base = base j; rank = self.rank; until = self.tasks.frame.count - self.fault; backup = c.args.backup; paid = 0 };
+      found =
+          λ limit. ap (λ (base : ℕ). least_within (demand_of s (record { base = base; rank = self.rank; until = self.tasks.frame.count - self.fault; backup = c.args.backup; paid = 0 })) 1 limit) base
+          ∙ assured-found s self.tasks.order self.rank self.below self.fault self.fits c.args.backup limit;
+    }

@@ -40,6 +40,6 @@ returns-in-Assured c =
     let s = tasks_in self.tasks in
     let limit = c.wide-limit in
     c.reaches-in-Assured.ensures
-    ∙ ap (λ (n : ℕ). not (eqb n 0)) (c.assurance.ensures limit.result)
+    ∙ ap (λ (n : ℕ). not (eqb n 0)) (c.assurance.ensures.found limit.result)
     ∙ ap (λ (rule : Rule). not (eqb (least_within (asked_by rule s self.rank self.fault c.args.backup) 1 limit.result) 0)) (sym c.in-Assured.is)
     ∙ searched _ s self.rank self.fault c.args.backup (limit.ensures.same, limit.ensures.small)

@@ -18,5 +18,10 @@ pub returns : goal.returns
 returns c =
     let self = c.args.self.now in
     let s = tasks_in self.tasks in
-    λ limit. ap (λ (base : ℕ). least_within (demand_of s (record { base = base; rank = self.rank; until = 0; backup = c.args.backup; paid = 0 })) 1 limit) c.wide-base.ensures.same
-    ∙ elsewhere-found s self.tasks.order self.rank self.below c.args.backup limit
+    let base = c.wide-base.ensures.same in
+    record {
+      same = λ j. record { base = base j; rank = self.rank; until = 0; backup = c.args.backup; paid = 0 };
+      found =
+          λ limit. ap (λ (base : ℕ). least_within (demand_of s (record { base = base; rank = self.rank; until = 0; backup = c.args.backup; paid = 0 })) 1 limit) base
+          ∙ elsewhere-found s self.tasks.order self.rank self.below c.args.backup limit;
+    }

@@ -30,5 +30,9 @@ returns c =
     let self = c.args.self.now in
     let s = tasks_in self.tasks in
     let base = ap₂ ◌+◌ (ap₂ ◌+◌ c.wide.ensures.same c.wide-2.ensures.same) c.once.ensures.same in
-    λ limit. ap (λ (base : ℕ). least_within (demand_of s (record { base = base; rank = self.rank; until = self.tasks.frame.count - self.fault; backup = c.args.backup; paid = c.args.backup })) 1 limit) base
-    ∙ itself-found s self.tasks.order self.rank self.below self.fault self.fits c.args.backup limit
+    record {
+      same = λ j. record { base = base j; rank = self.rank; until = self.tasks.frame.count - self.fault; backup = c.args.backup; paid = c.args.backup };
+      found =
+          λ limit. ap (λ (base : ℕ). least_within (demand_of s (record { base = base; rank = self.rank; until = self.tasks.frame.count - self.fault; backup = c.args.backup; paid = c.args.backup })) 1 limit) base
+          ∙ itself-found s self.tasks.order self.rank self.below self.fault self.fits c.args.backup limit;
+    }

@@ -21,9 +21,9 @@ as-itself s i q backup e = simp (ne_eqb q 0 e)
 pub returns-then-self-eq0 : goal.returns-then-self-eq0
 returns-then-self-eq0 c =
     let self = c.args.self.now in
-    λ limit. c.elsewhere.ensures limit ∙ ap (λ (f : ℕ → ℕ). least_within f 1 limit) (as-elsewhere (tasks_in self.tasks) self.rank self.fault c.args.backup c.if-self-eq0.true)
+    λ limit. c.elsewhere.ensures.found limit ∙ ap (λ (f : ℕ → ℕ). least_within f 1 limit) (as-elsewhere (tasks_in self.tasks) self.rank self.fault c.args.backup c.if-self-eq0.true)
 
 pub returns : goal.returns
 returns c =
     let self = c.args.self.now in
-    λ limit. c.itself.ensures limit ∙ ap (λ (f : ℕ → ℕ). least_within f 1 limit) (as-itself (tasks_in self.tasks) self.rank self.fault c.args.backup c.if-self-eq0.false)
+    λ limit. c.itself.ensures.found limit ∙ ap (λ (f : ℕ → ℕ). least_within f 1 limit) (as-itself (tasks_in self.tasks) self.rank self.fault c.args.backup c.if-self-eq0.false)

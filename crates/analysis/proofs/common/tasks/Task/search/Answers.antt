@@ -19,7 +19,7 @@ unfolding asked_by struck_elsewhere asked_elsewhere
 returns-in-Elsewhere c =
     let self = c.args.self.now in
     let s = chosen_in self.among in
-    λ limit. c.elsewhere.ensures limit
+    λ limit. c.elsewhere.ensures.found limit
     ∙ ap (λ (M : ℕ). least_within (asked_elsewhere s self.rank M) 1 limit) c.backup_elsewhere.ensures
     ∙ ap (λ (equation : Equation). least_within (asked_by equation s self.rank) 1 limit) (sym c.in-Elsewhere.is)
 
@@ -28,7 +28,7 @@ unfolding asked_by struck_itself asked_itself is_between
 returns-in-Itself c =
     let self = c.args.self.now in
     let s = chosen_in self.among in
-    λ limit. c.itself.ensures limit
+    λ limit. c.itself.ensures.found limit
     ∙ ap (λ (N : ℕ). least_within (asked_itself s self.rank (s.fault self.rank) N) 1 limit) c.backup_from_fault.ensures
     ∙ ap (λ (equation : Equation). least_within (asked_by equation s self.rank) 1 limit) (sym c.in-Itself.is)
 
@@ -37,6 +37,6 @@ unfolding asked_by assured_equation asked_assured is_over
 returns-in-Assurance c =
     let self = c.args.self.now in
     let s = chosen_in self.among in
-    λ limit. c.assurance.ensures limit
+    λ limit. c.assurance.ensures.found limit
     ∙ ap (λ (N : ℕ). least_within (asked_assured s self.rank (s.fault self.rank) N) 1 limit) c.backup_ahead.ensures
     ∙ ap (λ (equation : Equation). least_within (asked_by equation s self.rank) 1 limit) (sym c.in-Assurance.is)
