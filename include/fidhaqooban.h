@@ -75,7 +75,7 @@ enum fq_refusal {
 };
 
 /* More stack than any call was measured to take, in bytes (bench/run measures it, for the archive of this machine). */
-#define FQ_STACK_BYTES 8192
+#define FQ_STACK_BYTES 4096
 
 /* The longest sheet, eight tasks on a shared processor, and the longest list, all 8! choices of such a sheet, in bytes. */
 #define FQ_SHEET_BYTES 79
