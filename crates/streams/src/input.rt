@@ -1,12 +1,13 @@
 // Inputs: a file that is opened by its name, or standard input, whose name is `-`. End, data and error are told apart. A read that a
 // signal cut off is tried again, and any other error is one.
 // A proved loop has to end, so where no buffer fills the turns are counted, up to a number that no input uses up.
-ghost use Rattle.std.specs.Prelude.{◌≡◌};
+ghost use Rattle.std.specs.Prelude.{◌≡◌, length};
+ghost use Rattle.io.specs.Counts.{IsPrefixLen};
 ghost use Rattle.std.specs.Io.{ReadsAtMost};
 ghost use Rattle.streams.specs.Inputs.{is_dash};
 
 use crate::descriptors::STDERR_FILENO;
-use crate::{reasons, words};
+use crate::{parts, reasons, words};
 use std::fs::File;
 use std::io::{Error, ErrorKind, IsTerminal, Read, Stdin};
 
@@ -18,11 +19,15 @@ pub enum Opened {
 }
 
 // The argument at a place, at the start of a buffer, or `-` for the argument that is none, at place 0.
-pub fn name(rt: HostRuntime, place: usize, buffer: &mut [u8]) -> &[u8] {
-    if place == 0 {
-        return b"-";
+pub fn name(rt: HostRuntime, place: usize, buffer: &mut [u8]) -> &[u8]
+    ensures { IsPrefixLen (length result.now) buffer.old }
+{
+    if place != 0 {
+        return words::put(rt, place, buffer);
     }
-    words::put(rt, place, buffer)
+    let length = parts::part(1, buffer);
+    buffer[..length].fill(b'-');
+    &buffer[..length]
 }
 
 // Whether a name is that of standard input, or of standard output.
