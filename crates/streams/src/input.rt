@@ -11,6 +11,19 @@ use crate::{parts, reasons, words};
 use std::fs::File;
 use std::io::{Error, ErrorKind, IsTerminal, Read, Stdin};
 
+// What takes the pieces of an input, one after another.
+pub trait Takes {
+    fn take(&mut self, part: &[u8]);
+}
+
+// What drops them.
+#[derive(Clone, Copy)]
+struct Dropping;
+
+impl Takes for Dropping {
+    fn take(&mut self, _part: &[u8]) {}
+}
+
 // An input that is open.
 #[derive(Drop)]
 pub enum Opened {
@@ -132,23 +145,21 @@ pub fn fill(opened: &mut Opened, buffer: &mut [u8]) -> Result<usize, Error>
 }
 
 // Reads an input to its end in pieces of one buffer, and hands each piece on.
-pub fn read_parts<F: FnMut(&[u8])>(opened: &mut Opened, mut take: F) -> Result<(), Error>
-    requires { F.IsAlwaysCallable take }
-{
+pub fn read_parts<T: Takes>(opened: &mut Opened, taking: &mut T) -> Result<(), Error> {
     let mut buffer = io::large_buffer();
     for _ in 0..u64::MAX {
         let held = read(opened, &mut buffer)?;
         if held == 0 {
             return Ok(());
         }
-        take(&buffer[..held]);
+        taking.take(&buffer[..held]);
     }
     Err(Error::from(ErrorKind::Interrupted))
 }
 
 // Reads the rest of an input and drops it.
 pub fn read_to_its_end(opened: &mut Opened) -> Result<(), Error> {
-    read_parts(opened, |_| ())
+    read_parts(opened, &mut Dropping)
 }
 
 // Whether a word is the name of standard input.
