@@ -1,8 +1,8 @@
 // `judge`: what document 01 says of a sheet, its times and then its choices.
+use crate::responses::{Titles, Untitled};
 use crate::{passing, refusals, responses, taking};
 use analysis::{Entry, Rule};
 use intake::explanation;
-use report::Line;
 use sheet::Table;
 use std::io::Error;
 use streams::endings::Ending;
@@ -21,32 +21,23 @@ fn warn(table: Table) {
 }
 
 // Prints the times of a good sheet, and then its choices.
-fn print<F: Fn(Line, u8) -> Line>(
+fn print<T: Titles>(
     rt: HostRuntime,
     table: Table,
     entries: [Entry; 8],
-    title: F,
-) -> Result<(), Error>
-    requires { F.IsAlwaysCallable title }
-{
-    responses::print(rt, table, entries, title)?;
+    titles: &T,
+) -> Result<(), Error> {
+    responses::print(rt, table, entries, titles)?;
     passing::print(rt, table)
 }
 
 // Prints the answer to a good sheet, each task's line as it is titled by its place, from 0.
-pub fn answer<F: Fn(Line, u8) -> Line>(
-    rt: HostRuntime,
-    table: Table,
-    is_explained: bool,
-    title: F,
-) -> Ending
-    requires { F.IsAlwaysCallable title }
-{
+pub fn answer<T: Titles>(rt: HostRuntime, table: Table, is_explained: bool, titles: &T) -> Ending {
     let assessment = match analysis::assess(table) {
         Ok(assessment) => assessment,
         Err(refusal) => return refusals::print(rt, refusal.number(), is_explained),
     };
-    if let Err(error) = print(rt, table, assessment.entries, title) {
+    if let Err(error) = print(rt, table, assessment.entries, titles) {
         return endings::failed(error);
     }
     if is_explained & assessment.passes {
@@ -58,7 +49,7 @@ pub fn answer<F: Fn(Line, u8) -> Line>(
 // Judges the sheet that an argument names.
 fn judge(rt: HostRuntime, place: usize, is_explained: bool) -> Ending {
     match taking::table(rt, place, is_explained) {
-        Ok(table) => answer(rt, table, is_explained, |line, _| line),
+        Ok(table) => answer(rt, table, is_explained, &Untitled),
         Err(ending) => ending,
     }
 }

@@ -1,7 +1,10 @@
 // Names of files: where a name leads over symbolic links, the folder that it has in it, and the names that are the system's.
+ghost use Rattle.std.specs.Prelude.{◌≡◌, ◌≤◌, length, take};
+ghost use Rattle.io.specs.Counts.{IsPrefixLen};
+
 use std::fs;
 use std::io::Error;
-use streams::{input, parts};
+use streams::input;
 
 // Over how many links a name is followed, as the system does it.
 const LINKS: u8 = 40;
@@ -11,6 +14,7 @@ const LINKS: u8 = 40;
 pub struct Path {
     bytes: [u8; 4096],
     length: usize,
+    ghost fits: { length ≤ 4096 },
 }
 
 impl Path {
@@ -24,7 +28,7 @@ impl Path {
 
     // The bytes of the name.
     pub fn name(&self) -> &[u8] {
-        &self.bytes[..parts::part(self.length, &self.bytes)]
+        &self.bytes[..self.length]
     }
 
     // Puts bytes after those of the name, where there is room for all of them.
@@ -51,7 +55,10 @@ pub fn is_output(name: &[u8]) -> bool {
 }
 
 // The part of a name that is its folder's, which ends at its last slash.
-pub fn folder(name: &[u8]) -> &[u8] {
+pub fn folder(name: &[u8]) -> &[u8]
+    ensures fits { IsPrefixLen (length result.now) name.now }
+    ensures beginning { result.now ≡ take (length result.now) name.now }
+{
     match name.iter().rposition(|byte| *byte == b'/') {
         Some(place) => &name[..=place],
         None => &[],

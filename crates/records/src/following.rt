@@ -5,7 +5,7 @@ use std::io::{Error, IsTerminal};
 use std::time::{SystemTime, UNIX_EPOCH};
 use streams::descriptors::STDERR_FILENO;
 use streams::input;
-use streams::input::Opened;
+use streams::input::{Opened, Takes};
 
 // How many seconds pass from one word on the way to the next.
 const SECONDS: u64 = 5;
@@ -62,15 +62,30 @@ impl Way {
     }
 }
 
+// An input that is being followed, and how far.
+#[derive(Clone, Copy)]
+struct OnTheWay {
+    rt: HostRuntime,
+    following: Following,
+    way: Way,
+}
+
+impl Takes for OnTheWay {
+    fn take(&mut self, part: &[u8]) {
+        self.following = self.following.take(part);
+        self.way.go_on(self.rt, part.len());
+    }
+}
+
 // Takes every piece of an opened input.
 fn take(rt: HostRuntime, opened: &mut Opened, start: Following) -> Result<Following, Error> {
-    let mut following = start;
-    let mut way = Way::start(rt);
-    input::read_parts(opened, |part| {
-        following = following.take(part);
-        way.go_on(rt, part.len());
-    })?;
-    Ok(following)
+    let mut on_the_way = OnTheWay {
+        rt,
+        following: start,
+        way: Way::start(rt),
+    };
+    input::read_parts(opened, &mut on_the_way)?;
+    Ok(on_the_way.following)
 }
 
 // Takes the whole of the input that an argument names, or says why it could not be read.

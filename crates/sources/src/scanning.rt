@@ -3,7 +3,7 @@ use files::opened;
 use files::opened::File;
 use std::io::Error;
 use streams::input;
-use streams::input::Opened;
+use streams::input::{Opened, Takes};
 use text::Scan;
 
 // A text that was read to its end, and the file that it was read from.
@@ -13,11 +13,25 @@ pub struct Scanned {
     pub file: Option<File>,
 }
 
+// A text that is being read.
+#[derive(Clone, Copy)]
+struct Scanning {
+    scan: Scan,
+}
+
+impl Takes for Scanning {
+    fn take(&mut self, part: &[u8]) {
+        self.scan = self.scan.take(part);
+    }
+}
+
 // Takes every piece of an opened text.
 fn take(opened: &mut Opened) -> Result<Scan, Error> {
-    let mut scan = Scan::start();
-    input::read_parts(opened, |part| scan = scan.take(part))?;
-    Ok(scan)
+    let mut scanning = Scanning {
+        scan: Scan::start(),
+    };
+    input::read_parts(opened, &mut scanning)?;
+    Ok(scanning.scan)
 }
 
 // Reads the text of a name, or says why it could not be read.

@@ -1,5 +1,6 @@
 // Lines with a task's name.
 use cells::Name;
+use console::responses::Titles;
 use lines::Task;
 use report::Line;
 use streams::parts;
@@ -23,5 +24,17 @@ pub fn titled_from_1(line: Line, tasks: &[Task; 8], place: u8) -> Line {
     match place.checked_sub(1) {
         Some(place) => titled(line, tasks, place),
         None => line,
+    }
+}
+
+// Lines with the names of these tasks.
+#[derive(Clone, Copy)]
+pub struct Named {
+    pub tasks: [Task; 8],
+}
+
+impl Titles for Named {
+    fn titled(&self, line: Line, place: u8) -> Line {
+        titled(line, &self.tasks, place)
     }
 }

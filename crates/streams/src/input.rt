@@ -1,14 +1,28 @@
 // Inputs: a file that is opened by its name, or standard input, whose name is `-`. End, data and error are told apart. A read that a
 // signal cut off is tried again, and any other error is one.
 // A proved loop has to end, so where no buffer fills the turns are counted, up to a number that no input uses up.
-ghost use Rattle.std.specs.Prelude.{◌≡◌};
+ghost use Rattle.std.specs.Prelude.{◌≡◌, length};
+ghost use Rattle.io.specs.Counts.{IsPrefixLen};
 ghost use Rattle.std.specs.Io.{ReadsAtMost};
 ghost use Rattle.streams.specs.Inputs.{is_dash};
 
 use crate::descriptors::STDERR_FILENO;
-use crate::{reasons, words};
+use crate::{parts, reasons, words};
 use std::fs::File;
 use std::io::{Error, ErrorKind, IsTerminal, Read, Stdin};
+
+// What takes the pieces of an input, one after another.
+pub trait Takes {
+    fn take(&mut self, part: &[u8]);
+}
+
+// What drops them.
+#[derive(Clone, Copy)]
+struct Dropping;
+
+impl Takes for Dropping {
+    fn take(&mut self, _part: &[u8]) {}
+}
 
 // An input that is open.
 #[derive(Drop)]
@@ -18,11 +32,15 @@ pub enum Opened {
 }
 
 // The argument at a place, at the start of a buffer, or `-` for the argument that is none, at place 0.
-pub fn name(rt: HostRuntime, place: usize, buffer: &mut [u8]) -> &[u8] {
-    if place == 0 {
-        return b"-";
+pub fn name(rt: HostRuntime, place: usize, buffer: &mut [u8]) -> &[u8]
+    ensures { IsPrefixLen (length result.now) buffer.old }
+{
+    if place != 0 {
+        return words::put(rt, place, buffer);
     }
-    words::put(rt, place, buffer)
+    let length = parts::part(1, buffer);
+    buffer[..length].fill(b'-');
+    &buffer[..length]
 }
 
 // Whether a name is that of standard input, or of standard output.
@@ -127,23 +145,21 @@ pub fn fill(opened: &mut Opened, buffer: &mut [u8]) -> Result<usize, Error>
 }
 
 // Reads an input to its end in pieces of one buffer, and hands each piece on.
-pub fn read_parts<F: FnMut(&[u8])>(opened: &mut Opened, mut take: F) -> Result<(), Error>
-    requires { F.IsAlwaysCallable take }
-{
+pub fn read_parts<T: Takes>(opened: &mut Opened, taking: &mut T) -> Result<(), Error> {
     let mut buffer = io::large_buffer();
     for _ in 0..u64::MAX {
         let held = read(opened, &mut buffer)?;
         if held == 0 {
             return Ok(());
         }
-        take(&buffer[..held]);
+        taking.take(&buffer[..held]);
     }
     Err(Error::from(ErrorKind::Interrupted))
 }
 
 // Reads the rest of an input and drops it.
 pub fn read_to_its_end(opened: &mut Opened) -> Result<(), Error> {
-    read_parts(opened, |_| ())
+    read_parts(opened, &mut Dropping)
 }
 
 // Whether a word is the name of standard input.

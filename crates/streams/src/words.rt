@@ -1,5 +1,6 @@
 // The words that the program is given: where those of a command begin, how many there are, and what is said where they are wrong.
-ghost use Rattle.std.specs.Prelude.{◌≡◌};
+ghost use Rattle.std.specs.Prelude.{◌≡◌, length};
+ghost use Rattle.io.specs.Counts.{IsPrefixLen};
 ghost use Rattle.streams.specs.Endings.{word_place};
 
 use crate::descriptors::STDERR_FILENO;
@@ -33,7 +34,9 @@ pub struct Asked {
 }
 
 // The argument at a place, at the start of a buffer: none of its bytes where there is none or it has no room.
-pub fn put(rt: HostRuntime, place: usize, buffer: &mut [u8]) -> &[u8] {
+pub fn put(rt: HostRuntime, place: usize, buffer: &mut [u8]) -> &[u8]
+    ensures { IsPrefixLen (length result.now) buffer.old }
+{
     let length = rt.arg(place, buffer).unwrap_or(0);
     &buffer[..parts::part(length, buffer)]
 }

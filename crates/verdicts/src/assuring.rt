@@ -3,8 +3,9 @@ use analysis::{Entry, Slack};
 use assured::Times;
 use console::{output, passing, refusals, responses};
 use sheet::Table;
+use sources::taking;
 use sources::taking::Taken;
-use sources::{taking, titles};
+use sources::titles::Named;
 use std::io::Error;
 use streams::endings::Ending;
 use streams::words::Asked;
@@ -24,15 +25,10 @@ fn untimed(given: assured::Entry) -> Entry {
 fn print_times(rt: HostRuntime, taken: Taken, times: Times) -> Result<(), Error> {
     let stream = rt.stdout();
     let tasks = taken.tasks;
+    let named = Named { tasks };
     let entries = times.entries.map(|entry| untimed(entry));
     let mut page = output::EMPTY;
-    responses::keep(
-        &mut page,
-        &stream,
-        taken.table.count,
-        entries,
-        |line, place| { titles::titled(line, &tasks, place) },
-    )?;
+    responses::keep(&mut page, &stream, taken.table.count, entries, &named)?;
     page.write(&stream)
 }
 

@@ -1,6 +1,7 @@
 // `judge`: what document 01 says of each sheet, its times and then its choices, with the tasks' names where a text has them.
 use console::judging;
-use sources::{inputs, taking, titles};
+use sources::titles::Named;
+use sources::{inputs, taking};
 use std::io::{Error, Print};
 use streams::endings::Ending;
 use streams::words::Asked;
@@ -12,9 +13,8 @@ fn judge(rt: HostRuntime, asked: Asked, place: usize) -> Ending {
         return Ending::Trouble;
     };
     let tasks = taken.tasks;
-    judging::answer(rt, taken.table, asked.is_explained, |line, place| {
-        titles::titled(line, &tasks, place)
-    })
+    let named = Named { tasks };
+    judging::answer(rt, taken.table, asked.is_explained, &named)
 }
 
 // Prints the name of a sheet over its answer.
