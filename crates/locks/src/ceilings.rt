@@ -30,8 +30,8 @@ pub fn barred(jobs: [Job; 8], count: u8, resources: [Resource; 8], priority: u8)
     requires { count ≤ 8 }
     ensures { result ≡ some_below (λ number. bars (resource_at resources number) (some_job jobs count (λ job. has_bit job.uses number)) priority) 8 }
 {
-    (0..8).any(|place| {
+    (0..8).fold(false, |found, place| {
         let is_critical = running::some_uses(jobs, count, place);
-        bars(resources[place], is_critical, priority)
+        found | bars(resources[place], is_critical, priority)
     })
 }

@@ -25,9 +25,10 @@ fn overlaps_earlier(jobs: [Job; 8], place: usize) -> bool
     requires { place < 8 }
     ensures { result ≡ overlaps_earlier jobs place }
 {
-    jobs[..place]
-        .iter()
-        .any(|earlier| overlap(*earlier, jobs[place]))
+    (0..place).fold(
+        false,
+        |found, earlier| found | overlap(jobs[earlier], jobs[place]),
+    )
 }
 
 // Whether some job below the count is wrong by itself or overlaps an earlier one.
@@ -35,7 +36,9 @@ fn some_wrong(jobs: [Job; 8], count: u8, period: u32) -> bool
     requires { count ≤ 8 }
     ensures { result ≡ some_below (λ place. is_wrong period (job_at jobs place) || overlaps_earlier jobs place) count }
 {
-    (0..count as usize).any(|place| is_wrong(jobs[place], period) | overlaps_earlier(jobs, place))
+    (0..count as usize).fold(false, |found, place| {
+        found | (is_wrong(jobs[place], period) | overlaps_earlier(jobs, place))
+    })
 }
 
 // Whether a start table breaks its rules.

@@ -33,7 +33,7 @@ pub fn some_runs(jobs: [Job; 8], count: u8, phase: u32) -> bool
     requires { count ≤ 8 }
     ensures { result ≡ some_job jobs count (λ job. within job.offset job.length phase) }
 {
-    jobs[..count as usize].iter().any(|job| runs(*job, phase))
+    (0..count as usize).fold(false, |found, place| found | runs(jobs[place], phase))
 }
 
 // Whether some job uses a resource.
@@ -42,7 +42,7 @@ pub fn some_uses(jobs: [Job; 8], count: u8, resource: usize) -> bool
     requires known { resource ≤ 7 }
     ensures { result ≡ some_job jobs count (λ job. has_bit job.uses resource) }
 {
-    jobs[..count as usize]
-        .iter()
-        .any(|job| bits::has_bit(job.uses, resource))
+    (0..count as usize).fold(false, |found, place| {
+        found | bits::has_bit(jobs[place].uses, resource)
+    })
 }
