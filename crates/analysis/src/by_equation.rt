@@ -51,7 +51,8 @@ impl<'a> Task<'a> {
         self.search(equation).least(limit)
     }
 
-    // Whether it has one.
+    // Whether it has one. Each caller asks by one equation, and its code is that equation's alone.
+    #[inline(always)]
     pub fn has_time(&self, limit: u64, equation: Equation) -> bool
         requires { limit < 65536 }
         ensures { result ≡ not (eqb (least_within (asked_by equation (chosen_in self.now.among) self.now.rank) 1 limit) 0) }
